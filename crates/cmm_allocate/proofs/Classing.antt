@@ -1,4 +1,5 @@
 -- Unions and complements of sets, step by step, and the classes that they give.
+use Rattle.std.proofs.Math.Bool.{or_assoc}
 use Rattle.std.proofs.Common.{◌≡◌, ◌≢◌, ℕ, ◌+◌, ◌<◌, ◌≤◌, nat_lt, Bool, true, false, ◌&&◌, ◌||◌, not, List, [], get_or, length, set, take, refl, ap, sym, ◌∙◌, subst, arith}
 use Rattle.std.proofs.lemmas.Bool.Decides.{nat_tests}
 use Rattle.std.proofs.lemmas.List.{get_or_default, get_or_past, length-set}
@@ -66,14 +67,10 @@ none_taken test all none = record { size_is = refl; members = λ v. sym (ap (λ 
     or_false true = refl
     or_false false = refl
 
-either : (a b c : Bool) → ((a || b) || c) ≡ (a || (b || c))
-either true b c = refl
-either false b c = refl
-
 pub taken_more : (first second : ℕ → Bool) (old all next : List Bool) → HasTaken first old all → HasTaken second all next → HasTaken (λ v. first v || second v) old next
 taken_more first second old all next one two = record {
   size_is = two.size_is ∙ one.size_is;
-  members = λ v. two.members v ∙ (ap (λ b. b || second v) (one.members v) ∙ either (has old v) (first v) (second v));
+  members = λ v. two.members v ∙ (ap (λ b. b || second v) (one.members v) ∙ or_assoc (has old v) (first v) (second v));
 }
 
 pub taken_as : (first second : ℕ → Bool) (old all : List Bool) → ((v : ℕ) → first v ≡ second v) → HasTaken first old all → HasTaken second old all

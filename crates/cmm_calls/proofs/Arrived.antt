@@ -1,4 +1,5 @@
 -- Values come from registers to registers, and from the argument area to registers.
+use Rattle.std.proofs.lemmas.Bool.{and_parts, or_parts, or_from, or_right}
 use Rattle.std.proofs.Common.{◌≡◌, ◌≢◌, ◌⊎◌, inl, inr, ℕ, zero, suc, ◌+◌, ◌-◌, ◌*◌, ◌<◌, ◌≤◌, Bool, true, false, List, [], ◌∷◌, ◌++◌, drop, length, take, get_or, refl, sym, ◌∙◌, ap, subst, arith, Option, Some, None}
 use Rattle.std.specs.Prelude.{◌==◌, ◌&&◌, not, nat_le, nat_lt, slice_get, is_some, if◌then◌else◌}
 use Rattle.std.specs.List.{All, list_all}
@@ -24,9 +25,9 @@ use Rattle.cmm_select.specs.declared.destination.Destination.{Destination}
 use Rattle.cmm_select.specs.declared.destination.Destination.TheVariants.{Place, Register}
 use Rattle.cmm_calls.proofs.Copied.{destination_reached}
 use Rattle.cmm_calls.proofs.Moved.{by_both, by_passes, by_weaker, passes_both, passes_by, passes_weaker}
-use Rattle.cmm_calls.proofs.Standing.{both, each, frame_stays}
+use Rattle.cmm_calls.proofs.Standing.{each, frame_stays}
 use Rattle.cmm_calls.proofs.Taken.{value_in_area, value_in_register}
-use Rattle.cmm_calls.proofs.Tests.{alike, at_least, either_false, is_under, itself, neither, right_true, under, unlike}
+use Rattle.cmm_calls.proofs.Tests.{alike, at_least, is_under, itself, under, unlike}
 use Rattle.cmm_calls.specs.Copying.{IsGlobalBy, PutsEachTo, is_destination, values_to}
 use Rattle.cmm_calls.specs.Values.{HasRegion, Passes}
 use Rattle.cmm_calls.specs.inside.Arriving.{CopiesAll, CopiesIf, HasAllTo, HasArrived, HasStored, after_memory, after_registers, copy_cost, copy_least, copy_moves, cost_if, cost_of, is_again, is_loaded, is_register, last_to, load_cost, move_from, put_memory, put_register, register_of, store_cost, stored_count, unless}
@@ -56,7 +57,7 @@ again_found (e ∷ rest) zero r d found is =
     let same : e ≡ d = cc (found) in
     let here : is_register r (register_of e) ≡ true = ap (λ (b : Destination). is_register r (register_of b)) same ∙ ap (is_register r) is ∙ itself r in
     rw here refl
-again_found (e ∷ rest) (suc j) r d found is = right_true (is_register r (register_of e)) (is_again r rest) (again_found rest j r d found is)
+again_found (e ∷ rest) (suc j) r d found is = or_right (is_register r (register_of e)) (is_again r rest) (again_found rest j r d found is)
 
 again_behind : (to : List Destination) (k j r : ℕ) (d : Destination) → slice_get to j ≡ Some d → k < j → register_of d ≡ Some r → is_again r (drop (suc k) to) ≡ true
 again_behind [] k j r d found later is = absurd (cc (found))
@@ -96,7 +97,7 @@ may k c h = elim c [ true ↦ move_from k h | false ↦ [] ]
 not_target : (k : ℕ) (to : List Destination) (r : ℕ) → is_again r to ≡ false → is_target r (copy_moves k to) ≡ false
 not_target k [] r nay = refl
 not_target k (d ∷ to) r nay =
-    let parts = either_false (is_register r (register_of d)) (is_again r to) nay in
+    let parts = or_parts (is_register r (register_of d)) (is_again r to) nay in
     by (nat_lt k 8) (last_to (register_of d) to) (copy_moves (suc k) to) (λ j h e. other (register_of d) j (last_is (register_of d) to j h).0 parts.0 e) (not_target (suc k) to r parts.1)
   where
     other : (h : Option ℕ) (j : ℕ) → h ≡ Some j → is_register r h ≡ false → r ≡ j → ⊥
@@ -119,7 +120,7 @@ copy_moves_apart k (d ∷ to) =
 
 pub destination_in : (f : Frame) (d : Destination) (r : ℕ) → is_destination f d ≡ true → register_of d ≡ Some r → (8 ≤ r) × (r < 32)
 destination_in f (Place (Slot o)) r is h = absurd (cc (h))
-destination_in f (Place (Saved k)) r is h = let e : k ≡ r = cc (h) in let ok = (both (is_callee_saves k) _ is).0 in (grind (arith, nat_tests, ok, e), grind (arith, nat_tests, ok, e))
+destination_in f (Place (Saved k)) r is h = let e : k ≡ r = cc (h) in let ok = (and_parts (is_callee_saves k) _ is).0 in (grind (arith, nat_tests, ok, e), grind (arith, nat_tests, ok, e))
 destination_in f (Place (Temp k)) r is h = let e : k ≡ r = cc (h) in (grind (arith, nat_tests, is, e), grind (arith, nat_tests, is, e))
 destination_in f (Register l) r is h = absurd (cc (h))
 
@@ -127,7 +128,7 @@ pub copy_moves_clear : (f : Frame) (k : ℕ) (to : List Destination) → list_al
     (is_target 5 (copy_moves k to) ≡ false) × (is_source 5 (copy_moves k to) ≡ false) × (is_outside is_movable (copy_moves k to) ≡ false)
 copy_moves_clear f k [] all = (refl, refl, refl)
 copy_moves_clear f k (d ∷ to) all =
-    let parts = both (is_destination f d) (list_all (is_destination f) to) all in
+    let parts = and_parts (is_destination f d) (list_all (is_destination f) to) all in
     by (nat_lt k 8) refl (last_to (register_of d) to) (copy_moves (suc k) to) (λ r h. destination_in f d r parts.0 (last_is (register_of d) to r h).0) (copy_moves_clear f (suc k) to parts.1)
   where
     from_movable : nat_lt k 8 ≡ true → is_movable (10 + k) ≡ true
@@ -218,7 +219,7 @@ high_kept : (r : ℕ) → 8 ≤ r → is_scratch r ≡ false
 high_kept r h = grind (arith, nat_tests, h)
 
 so_more : (i k : ℕ) → so_far i k ≡ true → so_far (i + 1) k ≡ true
-so_more i k h = let parts = both (nat_le 8 k) (nat_lt k i) h in let less = under k i parts.1 in let more : nat_lt k (i + 1) ≡ true = is_under k (i + 1) (omega (arith, less)) in rw (parts.0, more) refl
+so_more i k h = let parts = and_parts (nat_le 8 k) (nat_lt k i) h in let less = under k i parts.1 in let more : nat_lt k (i + 1) ≡ true = is_under k (i + 1) (omega (arith, less)) in rw (parts.0, more) refl
 
 so_less : (i k : ℕ) → so_far (i + 1) k ≡ false → so_far i k ≡ false
 so_less i k h = by (so_far i k) refl
@@ -228,7 +229,7 @@ so_less i k h = by (so_far i k) refl
     by false is = refl
 
 so_before : (i k : ℕ) → so_far (i + 1) k ≡ true → (k == i) ≡ false → so_far i k ≡ true
-so_before i k h g = let parts = both (nat_le 8 k) (nat_lt k (i + 1)) h in let less : nat_lt k i ≡ true = grind (arith, nat_tests, parts.1, g) in rw (parts.0, less) refl
+so_before i k h g = let parts = and_parts (nat_le 8 k) (nat_lt k (i + 1)) h in let less : nat_lt k i ≡ true = grind (arith, nat_tests, parts.1, g) in rw (parts.0, less) refl
 
 area_same : (region : Region) (k : ℕ) (s t : State) → 8 ≤ k → t.memory ≡ s.memory → word_at t (value_place region k) ≡ word_at s (value_place region k)
 area_same region k s t far is = value_in_area region k t far ∙ ap (λ (m : ℕ → ℕ). loaded m (region.address + 8 * (k - 8)) 8) is ∙ sym (value_in_area region k s far)
@@ -241,7 +242,7 @@ module _ (region : Region) (f : Frame) (at : ℕ → ℕ) (to : List Destination
   put_step r last far first puts = record {
     arrive = λ k j e there its come. by k j e there its come (k == i) refl;
     registers = λ j kept away.
-        puts.1 j (neither (j == r) (is_scratch j) (unlike j r (λ e. let off = away i d found (last ∙ ap (λ (n : ℕ). Some n) (sym e)) in cc (off, now))) kept)
+        puts.1 j (or_from (j == r) (is_scratch j) (unlike j r (λ e. let off = away i d found (last ∙ ap (λ (n : ℕ). Some n) (sym e)) in cc (off, now))) kept)
         ∙ first.registers j kept (λ k e there its. so_less i k (away k e there its));
     memory = puts.2 ∙ first.memory;
   }
@@ -257,11 +258,11 @@ module _ (region : Region) (f : Frame) (at : ℕ → ℕ) (to : List Destination
           ap u.registers (some_is j r h) ∙ puts.0 ∙ area_same region i s t (at_least i far) first.memory ∙ ap (λ (n : ℕ). word_at s (value_place region n)) (sym w)
       by k j e there its come false is =
           let differ : (j == r) ≡ false = unlike j r (λ w. let same = one_last to k i j e d (there, its) (found, last ∙ ap (λ (n : ℕ). Some n) (sym w)) in let yes : (k == i) ≡ true = ap (λ (n : ℕ). n == i) same ∙ itself i in cc (yes, is)) in
-          puts.1 j (neither (j == r) (is_scratch j) differ (high_kept j (last_in f to k j e good (there, its)).0)) ∙ first.arrive k j e there its (so_before i k come is)
+          puts.1 j (or_from (j == r) (is_scratch j) differ (high_kept j (last_in f to k j e good (there, its)).0)) ∙ first.arrive k j e there its (so_before i k come is)
 
   pub load_step : (now : Bool) → now ≡ is_loaded i d (drop (suc i) to) → HasArrived region at (so_far i) to s t → CopiesIf now at d (word_at t (value_place region i)) t u → HasArrived region at (so_far (i + 1)) to s u
   load_step true is first puts =
-      let parts = both (nat_le 8 i) (is_some (last_to (register_of d) (drop (suc i) to))) (sym is) in
+      let parts = and_parts (nat_le 8 i) (is_some (last_to (register_of d) (drop (suc i) to))) (sym is) in
       let one = some_one (last_to (register_of d) (drop (suc i) to)) parts.1 in
       put_step one.0 one.1 parts.0 first (register_put at d one.0 (word_at t (value_place region i)) t u (last_is (register_of d) (drop (suc i) to) one.0 one.1).0 puts)
   load_step false is first same = subst (λ (w : State). HasArrived region at (so_far (i + 1)) to s w) same record {
@@ -276,7 +277,7 @@ module _ (region : Region) (f : Frame) (at : ℕ → ℕ) (to : List Destination
           let w = alike k i g in
           let same : e ≡ d = found_same to k i e d there found w in
           let h : last_to (register_of d) (drop (suc i) to) ≡ Some j = sym (ap (λ (n : ℕ). last_to (register_of e) (drop (suc n) to)) w ∙ ap (λ (b : Destination). last_to (register_of b) (drop (suc i) to)) same) ∙ its in
-          let far : nat_le 8 i ≡ true = ap (λ (n : ℕ). nat_le 8 n) (sym w) ∙ (both (nat_le 8 k) (nat_lt k (i + 1)) come).0 in
+          let far : nat_le 8 i ≡ true = ap (λ (n : ℕ). nat_le 8 n) (sym w) ∙ (and_parts (nat_le 8 k) (nat_lt k (i + 1)) come).0 in
           let yes : is_loaded i d (drop (suc i) to) ≡ true = rw (far, h) refl in
           absurd (cc (yes, is))
 
@@ -291,7 +292,7 @@ registers_from_end region k (d ∷ to) s t g r arrive other =
     (λ none. here (register_of d) refl none)
   where
     here : (h : Option ℕ) → register_of d ≡ h → is_again r to ≡ false → t.registers r ≡ put_register h (word_at s (value_place region k)) g r
-    here None is none = other (neither (is_register r (register_of d)) (is_again r to) (ap (is_register r) is) none)
+    here None is none = other (or_from (is_register r (register_of d)) (is_again r to) (ap (is_register r) is) none)
     here (Some j) is none = by (r == j) refl
       where
         by : (c : Bool) → (r == j) ≡ c → t.registers r ≡ (if r == j then word_at s (value_place region k) else g r)
@@ -302,7 +303,7 @@ registers_from_end region k (d ∷ to) s t g r arrive other =
             arrive 0 d (refl, last) ∙ ap (λ (i : ℕ). word_at s (value_place region i)) n ∙ sym (ap (λ (c : Bool). if c then word_at s (value_place region k) else g r) e)
         by false e =
             let differ : (j == r) ≡ false = unlike j r (λ w. let yes : (r == j) ≡ true = ap (λ (n : ℕ). r == n) w ∙ itself r in cc (yes, e)) in
-            other (neither (is_register r (register_of d)) (is_again r to) (ap (is_register r) is ∙ differ) none) ∙ sym (ap (λ (c : Bool). if c then word_at s (value_place region k) else g r) e)
+            other (or_from (is_register r (register_of d)) (is_again r to) (ap (is_register r) is ∙ differ) none) ∙ sym (ap (λ (c : Bool). if c then word_at s (value_place region k) else g r) e)
 
 pub all_come : (region : Region) (f : Frame) (at : ℕ → ℕ) (to : List Destination) (s t u w : State) → length to ≤ 64 → list_all (is_destination f) to ≡ true → HasStored region at to s t →
     HasArrived region at (λ k. nat_lt k 8) to t u → HasArrived region at (λ k. nat_le 8 k) to u w → HasAllTo at (values_to region 0 to s) s w
@@ -335,7 +336,7 @@ all_come region f at to s t u w few good first second third = record {
 put_to : (k n : ℕ) (s t : State) → is_scratch k ≡ false → ((r : ℕ) → is_scratch r ≡ false → t.registers r ≡ (if r == k then n else s.registers r)) → t.memory ≡ s.memory → PutsRegister k n s t
 put_to k n s t kept registers memory = (
   registers k kept ∙ ap (λ (b : Bool). if b then n else s.registers k) (itself k),
-  λ r h. registers r (either_false (r == k) (is_scratch r) h).1 ∙ ap (λ (b : Bool). if b then n else s.registers r) (either_false (r == k) (is_scratch r) h).0,
+  λ r h. registers r (or_parts (r == k) (is_scratch r) h).1 ∙ ap (λ (b : Bool). if b then n else s.registers r) (or_parts (r == k) (is_scratch r) h).0,
   memory,
 )
 
@@ -355,14 +356,14 @@ put_beside f d n r g good low = by (register_of d) refl
 
 pub puts_from_end : (region : Region) (f : Frame) (at : ℕ → ℕ) (k : ℕ) (d : Destination) (rest : List Destination) (v s t : State) → list_all (is_destination f) (d ∷ rest) ≡ true →
     HasAllTo at (values_to region k (d ∷ rest) v) s t → PutsEachTo at (values_to region k (d ∷ rest) v) s t
-puts_from_end region f at k d [] v s t good has = (t, puts_one f at d (word_at v (value_place region k)) s t (both (is_destination f d) true good).0 has.registers has.memory, refl)
+puts_from_end region f at k d [] v s t good has = (t, puts_one f at d (word_at v (value_place region k)) s t (and_parts (is_destination f d) true good).0 has.registers has.memory, refl)
 puts_from_end region f at k d (e ∷ rest) v s t good has = (between, puts_one f at d n s between parts.0 (λ r kept. refl) refl, puts_from_end region f at (suc k) e rest v between t parts.1 later)
   where
     n : ℕ
     n = word_at v (value_place region k)
 
     parts : (is_destination f d ≡ true) × (list_all (is_destination f) (e ∷ rest) ≡ true)
-    parts = both (is_destination f d) (list_all (is_destination f) (e ∷ rest)) good
+    parts = and_parts (is_destination f d) (list_all (is_destination f) (e ∷ rest)) good
 
     between : State
     between = record { registers = put_register (register_of d) n s.registers; pc = t.pc; memory = put_memory at d n (s.registers 2) (s.registers 4) s.memory }
@@ -391,7 +392,7 @@ loaded_none old size to =
     (λ x from on is. λ knows region. record {
       begins = inl is;
       runs = runs_none is (λ s sound has. record {
-        arrive = λ k r d found last come. absurd (let low = under k 0 (both (nat_le 8 k) (nat_lt k 0) come).1 in omega (arith, low));
+        arrive = λ k r d found last come. absurd (let low = under k 0 (and_parts (nat_le 8 k) (nat_lt k 0) come).1 in omega (arith, low));
         registers = λ r kept away. refl;
         memory = refl;
       });

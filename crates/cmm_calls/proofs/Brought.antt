@@ -1,7 +1,7 @@
 -- Values go out to where they travel.
 use Rattle.std.proofs.Common.{◌≡◌, ◌≢◌, inl, inr, ℕ, zero, suc, ◌+◌, ◌-◌, ◌*◌, ◌%◌, ◌<◌, ◌≤◌, ◌^◌, Bool, true, false, List, length, refl, sym, ◌∙◌, ap, subst, arith, pos}
 use Rattle.std.specs.Prelude.{◌==◌, ◌||◌, nat_le, IsTrue}
-use Rattle.std.proofs.lemmas.Bool.{cases_lt}
+use Rattle.std.proofs.lemmas.Bool.{cases_lt, or_parts}
 use Rattle.std.proofs.lemmas.Bool.Decides.{nat_tests}
 use Rattle.cmm_abi.specs.Regions.{InMemory, InRegister, LiesIn, Place as WordPlace, value_place, with_word, word_at}
 use Rattle.cmm_abi.specs.Registers.{is_scratch}
@@ -36,10 +36,6 @@ use Rattle.cmm_calls.specs.inside.Giving.{CanGive, GivesValue}
 
 -- ---- one value
 
-first_both : (a b : Bool) → (a || b) ≡ false → (a ≡ false) × (b ≡ false)
-first_both true b h = absurd (cc)
-first_both false b h = (refl, h)
-
 away_brought : (r : ℕ) → is_scratch r ≡ false → ((r == 5) || (r == 6)) ≡ false
 away_brought r h = grind (arith, nat_tests, h)
 
@@ -71,7 +67,7 @@ module _ (x : Code) (a : Operand) (k from to : ℕ) (region : Region) where
       all s t n sets fits = record {
         fits = fits;
         given = subst (λ (w : WordPlace). Keeps (with_word w n s) t) (sym (near_place region k low))
-            (register_given k n s t (sets.given, (λ r h. sets.others r (first_both (r == 10 + k) (is_scratch r) h).0), sets.memory));
+            (register_given k n s t (sets.given, (λ r h. sets.others r (or_parts (r == 10 + k) (is_scratch r) h).0), sets.memory));
         waits = sets.others 7 (waits_beside k);
       }
 
@@ -97,7 +93,7 @@ module _ (x : Code) (a : Operand) (k from to : ℕ) (short : most_for a ≤ 11) 
         given = subst (λ (p : WordPlace). Keeps (with_word p n s) u) (sym (near_place region k low))
             (register_given k n s u (
               second.given ∙ ap (λ (v : ℕ). sum v (modulo 64 (pos 0))) first.given ∙ plus_none n fits,
-              (λ r h. let parts = first_both (r == 10 + k) (is_scratch r) h in second.others r parts.0 ∙ first.others r (away_brought r parts.1)),
+              (λ r h. let parts = or_parts (r == 10 + k) (is_scratch r) h in second.others r parts.0 ∙ first.others r (away_brought r parts.1)),
               second.memory ∙ first.memory,
             ));
         waits = second.others 7 (waits_beside k) ∙ first.others 7 refl;

@@ -1,7 +1,7 @@
 -- Some of the values go out, and then others.
 use Rattle.std.proofs.Common.{◌≡◌, ◌≢◌, ◌⊎◌, inl, inr, ℕ, zero, suc, ◌+◌, ◌-◌, ◌*◌, ◌<◌, ◌≤◌, Bool, true, false, List, length, min, refl, sym, ◌∙◌, ap, arith, Some}
 use Rattle.std.specs.Prelude.{◌==◌, ◌&&◌, ◌||◌, nat_le, nat_lt, slice_get, is_some, IsTrue}
-use Rattle.std.proofs.lemmas.Bool.{cases_lt}
+use Rattle.std.proofs.lemmas.Bool.{cases_lt, and_parts}
 use Rattle.std.proofs.lemmas.Bool.Decides.{nat_tests}
 use Rattle.std.proofs.lemmas.Option.{slice_get_within}
 use Rattle.cmm_abi.specs.Regions.{value_place, word_at}
@@ -15,7 +15,6 @@ use Rattle.cmm_select.specs.declared.operand.Operand.{Operand}
 use Rattle.cmm_select.specs.declared.operand.Operand.TheVariants.{Held, Symbol}
 use Rattle.cmm_select.specs.declared.source.Source.TheVariants.{Place, Number, Address}
 use Rattle.cmm_calls.proofs.Brought.{in_area, in_register, others_kept, value_arrives}
-use Rattle.cmm_calls.proofs.Standing.{both}
 use Rattle.cmm_calls.proofs.Taken.{no_scratch_value, value_in_area, value_in_register}
 use Rattle.cmm_calls.proofs.Tests.{alike}
 use Rattle.cmm_calls.specs.Values.{Gives, is_operand}
@@ -128,7 +127,7 @@ module _ (region : Region) (at : ℕ → ℕ) (gone : ℕ → Operand → Bool) 
       operand_at at a t ≡ operand_at at a s
   operand_stays f (Held (Place (Slot o))) is only low = frame_word o low
   operand_stays f (Held (Place (Saved r))) is only low =
-      gives.registers r (saved_kept r (both (is_callee_saves r) _ is).0) (λ k b goes near e. let far = only refl k b goes in absurd (omega (arith, far, near)))
+      gives.registers r (saved_kept r (and_parts (is_callee_saves r) _ is).0) (λ k b goes near e. let far = only refl k b goes in absurd (omega (arith, far, near)))
   operand_stays f (Held (Place (Temp r))) is only low =
       gives.registers r (temporary_kept r is) (λ k b goes near e. let far = only refl k b goes in absurd (omega (arith, far, near)))
   operand_stays f (Held (Number n)) is only low = refl

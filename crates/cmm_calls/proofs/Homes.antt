@@ -1,4 +1,5 @@
 -- Values that are in registers go to registers, and the others one by one.
+use Rattle.std.proofs.lemmas.Bool.{and_parts, or_right, or_cases}
 use Rattle.std.proofs.Common.{◌≡◌, ◌≢◌, ◌⊎◌, inl, inr, ℕ, zero, suc, ◌+◌, ◌*◌, ◌<◌, ◌≤◌, Bool, true, false, List, [], ◌∷◌, ◌++◌, length, take, get_or, refl, sym, ◌∙◌, ap, subst, arith, Option, Some, None}
 use Rattle.std.specs.Prelude.{◌==◌, ◌&&◌, ◌||◌, not, nat_le, nat_lt, slice_get, is_some, if◌then◌else◌}
 use Rattle.std.specs.List.{list_all}
@@ -22,9 +23,9 @@ use Rattle.cmm_select.specs.declared.source.Source.TheVariants.{Place, Number, A
 use Rattle.cmm_calls.proofs.Brought.{operand_brought}
 use Rattle.cmm_calls.proofs.Gone.{fixed_stays, gives_all, one_goes, operand_stays, those_same, those_then}
 use Rattle.cmm_calls.proofs.Moved.{passes_both, passes_by, passes_weaker}
-use Rattle.cmm_calls.proofs.Standing.{both, each, frame_stays}
+use Rattle.cmm_calls.proofs.Standing.{each, frame_stays}
 use Rattle.cmm_calls.proofs.Taken.{value_in_register}
-use Rattle.cmm_calls.proofs.Tests.{at_least, either_true, is_under, itself, right_true, under, unlike}
+use Rattle.cmm_calls.proofs.Tests.{at_least, is_under, itself, under, unlike}
 use Rattle.cmm_calls.specs.Values.{Gives, GivesIn, HasRegion, Passes, is_operand}
 use Rattle.cmm_calls.specs.inside.Giving.{CanGive, GivesIf, GivesThose, Goes, count_in, goes_in, home, move_for, move_to, moves_from, one_if}
 use Rattle.cmm_calls.specs.inside.Moves.{MovesAtOnce, PassesBy, begins_moving, is_movable}
@@ -77,7 +78,7 @@ is_home r = nat_le 8 r && nat_le r 31
 
 home_in : (f : Frame) (a : Operand) (r : ℕ) → is_operand f a ≡ true → home a ≡ Some r → (8 ≤ r) × (r < 32)
 home_in f (Held (Place (Slot o))) r is h = absurd (cc (h))
-home_in f (Held (Place (Saved k))) r is h = let e : k ≡ r = cc (h) in let ok = (both (is_callee_saves k) _ is).0 in (grind (arith, nat_tests, ok, e), grind (arith, nat_tests, ok, e))
+home_in f (Held (Place (Saved k))) r is h = let e : k ≡ r = cc (h) in let ok = (and_parts (is_callee_saves k) _ is).0 in (grind (arith, nat_tests, ok, e), grind (arith, nat_tests, ok, e))
 home_in f (Held (Place (Temp k))) r is h = let e : k ≡ r = cc (h) in (grind (arith, nat_tests, is, e), grind (arith, nat_tests, is, e))
 home_in f (Held (Number n)) r is h = absurd (cc (h))
 home_in f (Held (Address o)) r is h = absurd (cc (h))
@@ -86,7 +87,7 @@ home_in f (Symbol l plus) r is h = absurd (cc (h))
 pub moves_unread : (f : Frame) (j : ℕ) (vs : List Operand) → list_all (is_operand f) vs ≡ true → is_source 5 (moves_from j vs) ≡ false
 moves_unread f j [] all = refl
 moves_unread f j (a ∷ vs) all =
-    let parts = both (is_operand f a) (list_all (is_operand f) vs) all in
+    let parts = and_parts (is_operand f a) (list_all (is_operand f) vs) all in
     by (nat_lt j 8) (home a) (moves_from (suc j) vs) (λ r h. home_in f a r parts.0 h) (moves_unread f (suc j) vs parts.1)
   where
     by : (c : Bool) (h : Option ℕ) (rest : List Move) → ((r : ℕ) → h ≡ Some r → (8 ≤ r) × (r < 32)) → is_source 5 rest ≡ false → is_source 5 (may_move j c h ++ rest) ≡ false
@@ -97,7 +98,7 @@ moves_unread f j (a ∷ vs) all =
 pub moves_inside : (f : Frame) (j : ℕ) (vs : List Operand) → list_all (is_operand f) vs ≡ true → is_outside is_movable (moves_from j vs) ≡ false
 moves_inside f j [] all = refl
 moves_inside f j (a ∷ vs) all =
-    let parts = both (is_operand f a) (list_all (is_operand f) vs) all in
+    let parts = and_parts (is_operand f a) (list_all (is_operand f) vs) all in
     by (nat_lt j 8) refl (home a) (moves_from (suc j) vs) (λ r h. home_in f a r parts.0 h) (moves_inside f (suc j) vs parts.1)
   where
     to_movable : nat_lt j 8 ≡ true → is_movable (10 + j) ≡ true
@@ -161,7 +162,7 @@ home_value at (Symbol l plus) s some = absurd (cc (some))
 pub homes_gone : (region : Region) (at : ℕ → ℕ) (values : List Operand) (s t : State) → MovesAtOnce (moves_from 0 values) s t → GivesThose region at at_home values s t
 homes_gone region at values s t moved = record {
   arrive = λ k a goes.
-      let parts = both (nat_lt k 8) (is_some (home a)) goes.goes in
+      let parts = and_parts (nat_lt k 8) (is_some (home a)) goes.goes in
       let low = under k 8 parts.0 in
       let there = home_value at a s parts.1 in
       value_in_register region k t low ∙ moved.registers (10 + k) (λ e. absurd (omega (arith, e)))
@@ -229,7 +230,7 @@ module _ (region : Region) (at : ℕ → ℕ) (f : Frame) (values : List Operand
 
       split : (k : ℕ) (a : Operand) → Goes (so_far area (i + 1)) values k a → Goes (so_far area i) values k a ⊎ Goes (λ k a. k == i) values k a
       split k a goes =
-          let parts = both (goes_in area k a) (nat_lt k (i + 1)) goes.goes in
+          let parts = and_parts (goes_in area k a) (nat_lt k (i + 1)) goes.goes in
           elim (step_test k parts.1) [
             | inl before ↦ inl record { found = goes.found; goes = rw (parts.0, before) refl }
             | inr now ↦ inr record { found = goes.found; goes = now }
@@ -237,7 +238,7 @@ module _ (region : Region) (at : ℕ → ℕ) (f : Frame) (values : List Operand
 
       wider : (k : ℕ) (a : Operand) → Goes (so_far area i) values k a → Goes (so_far area (i + 1)) values k a
       wider k a goes =
-          let parts = both (goes_in area k a) (nat_lt k i) goes.goes in
+          let parts = and_parts (goes_in area k a) (nat_lt k i) goes.goes in
           let more : nat_lt k (i + 1) ≡ true = is_under k (i + 1) (let h = under k i parts.1 in omega (arith, h)) in
           record { found = goes.found; goes = rw (parts.0, more) refl }
 
@@ -254,17 +255,17 @@ module _ (region : Region) (at : ℕ → ℕ) (f : Frame) (values : List Operand
 
       apart : (k : ℕ) (a : Operand) → Goes (so_far area i) values k a → Goes (λ k a. k == i) values k a → true ≡ false
       apart k a goes now =
-          let h = under k i (both (goes_in area k a) (nat_lt k i) goes.goes).1 in
+          let h = under k i (and_parts (goes_in area k a) (nat_lt k i) goes.goes).1 in
           let e = equal k i now.goes in
           absurd (omega (arith, h, e))
 
       only : (b : Bool) → b ≡ area → is_some (home v) ≡ true → (k : ℕ) (a : Operand) → Goes (so_far area i) values k a → 8 ≤ k
       only true e some k a goes =
-          let g : nat_le 8 k ≡ true = ap (λ (c : Bool). goes_in c k a) e ∙ (both (goes_in area k a) (nat_lt k i) goes.goes).0 in
+          let g : nat_le 8 k ≡ true = ap (λ (c : Bool). goes_in c k a) e ∙ (and_parts (goes_in area k a) (nat_lt k i) goes.goes).0 in
           grind (arith, nat_tests, g)
       only false e some k a goes =
           let g : (nat_lt i 8 && not (is_some (home v))) ≡ true = ap (λ (c : Bool). goes_in c i v) e ∙ sym is in
-          let n : not (is_some (home v)) ≡ true = (both (nat_lt i 8) (not (is_some (home v))) g).1 in
+          let n : not (is_some (home v)) ≡ true = (and_parts (nat_lt i 8) (not (is_some (home v))) g).1 in
           absurd (let m : not true ≡ true = ap not (sym some) ∙ n in cc (m))
 
       stays : (k : ℕ) (a : Operand) → Goes (λ k a. k == i) values k a → operand_at at a t ≡ operand_at at a s
@@ -280,7 +281,7 @@ module _ (region : Region) (at : ℕ → ℕ) (f : Frame) (values : List Operand
       back k a goes = by (k == i) refl
         where
           parts : (goes_in area k a ≡ true) × (nat_lt k (i + 1) ≡ true)
-          parts = both (goes_in area k a) (nat_lt k (i + 1)) goes.goes
+          parts = and_parts (goes_in area k a) (nat_lt k (i + 1)) goes.goes
 
           by : (c : Bool) → (k == i) ≡ c → Goes (so_far area i) values k a
           by true e =
@@ -295,7 +296,7 @@ module _ (region : Region) (at : ℕ → ℕ) (f : Frame) (values : List Operand
 
       forth : (k : ℕ) (a : Operand) → Goes (so_far area i) values k a → Goes (so_far area (i + 1)) values k a
       forth k a goes =
-          let parts = both (goes_in area k a) (nat_lt k i) goes.goes in
+          let parts = and_parts (goes_in area k a) (nat_lt k i) goes.goes in
           let more : nat_lt k (i + 1) ≡ true = is_under k (i + 1) (let h = under k i parts.1 in omega (arith, h)) in
           record { found = goes.found; goes = rw (parts.0, more) refl }
 
@@ -305,7 +306,7 @@ so_far_none old size area values =
     (λ x from to is. λ region. record {
       begins = inl is;
       runs = runs_none is (λ s sound has. record {
-        arrive = λ k a goes. absurd (let h = under k 0 (both (goes_in area k a) (nat_lt k 0) goes.goes).1 in omega (arith, h));
+        arrive = λ k a goes. absurd (let h = under k 0 (and_parts (goes_in area k a) (nat_lt k 0) goes.goes).1 in omega (arith, h));
         registers = λ r kept away. refl;
         waits = refl;
         memory = λ b away. refl;
@@ -352,7 +353,7 @@ so_far_all old new size values area i past first =
     (λ x from to does. λ region. passes_weaker (does region) most (λ s sound has. has)
     (λ s t sound has gives. those_same region x.at values (so_far area i) (goes_in area) s t
     (λ k a goes. record { found = goes.found; goes = let less = is_under k i (let h = slice_get_within values k a goes.found in omega (arith, h, past)) in rw (goes.goes, less) refl })
-    (λ k a goes. record { found = goes.found; goes = (both (goes_in area k a) (nat_lt k i) goes.goes).0 })
+    (λ k a goes. record { found = goes.found; goes = (and_parts (goes_in area k a) (nat_lt k i) goes.goes).0 })
     gives))
 
 -- ---- the area's, those in registers, and the others
@@ -382,13 +383,13 @@ module _ (region : Region) (at : ℕ → ℕ) (f : Frame) (values : List Operand
   two_gone : (s t u : State) → bottom region ≤ s.registers 2 → GivesThose region at (goes_in true) values s t → GivesThose region at at_home values t u → GivesThose region at two_parts values s u
   two_gone s t u low first second =
       those_then region at values (goes_in true) at_home two_parts
-      (λ k a goes. elim (either_true (nat_le 8 k) (at_home k a) goes.goes) [
+      (λ k a goes. elim (or_cases (nat_le 8 k) (at_home k a) goes.goes) [
         | inl far ↦ inl record { found = goes.found; goes = far }
         | inr there ↦ inr record { found = goes.found; goes = there }
       ])
       (λ k a goes. record { found = goes.found; goes = rw goes.goes refl })
-      (λ k a goes. record { found = goes.found; goes = right_true (nat_le 8 k) (at_home k a) goes.goes })
-      (λ k a far there. sym (both (nat_lt k 8) (is_some (home a)) there.goes).0 ∙ far_not_near k far.goes)
+      (λ k a goes. record { found = goes.found; goes = or_right (nat_le 8 k) (at_home k a) goes.goes })
+      (λ k a far there. sym (and_parts (nat_lt k 8) (is_some (home a)) there.goes).0 ∙ far_not_near k far.goes)
       s t u
       (λ k a goes. operand_stays region at (goes_in true) values few s t first f a (is_good f values k a good goes.found) (λ some j b far. at_least j far.goes) low)
       first second
@@ -403,7 +404,7 @@ module _ (region : Region) (at : ℕ → ℕ) (f : Frame) (values : List Operand
       (λ k a goes other. apart k a goes.goes other.goes)
       s t u
       (λ k a goes. operand_stays region at two_parts values few s t first f a (is_good f values k a good goes.found)
-      (λ some j b other. absurd (let no = clash (is_some (home a)) some (both (nat_lt k 8) (not (is_some (home a))) goes.goes).1 in cc (no))) low)
+      (λ some j b other. absurd (let no = clash (is_some (home a)) some (and_parts (nat_lt k 8) (not (is_some (home a))) goes.goes).1 in cc (no))) low)
       first second)
     where
       split : (k : ℕ) (a : Operand) → slice_get values k ≡ Some a → Goes two_parts values k a ⊎ Goes (goes_in false) values k a
@@ -413,15 +414,15 @@ module _ (region : Region) (at : ℕ → ℕ) (f : Frame) (values : List Operand
       ]
         where
           by : (c : Bool) → is_some (home a) ≡ c → nat_lt k 8 ≡ true → Goes two_parts values k a ⊎ Goes (goes_in false) values k a
-          by true some near = inl record { found = found; goes = right_true (nat_le 8 k) (at_home k a) (rw (near, some) refl) }
+          by true some near = inl record { found = found; goes = or_right (nat_le 8 k) (at_home k a) (rw (near, some) refl) }
           by false none near = inr record { found = found; goes = rw (near, none) refl }
 
       apart : (k : ℕ) (a : Operand) → two_parts k a ≡ true → goes_in false k a ≡ true → true ≡ false
       apart k a h g =
-          let parts = both (nat_lt k 8) (not (is_some (home a))) g in
-          elim (either_true (nat_le 8 k) (at_home k a) h) [
+          let parts = and_parts (nat_lt k 8) (not (is_some (home a))) g in
+          elim (or_cases (nat_le 8 k) (at_home k a) h) [
             | inl far ↦ sym parts.0 ∙ far_not_near k far
-            | inr there ↦ clash (is_some (home a)) (both (nat_lt k 8) (is_some (home a)) there).1 parts.1
+            | inr there ↦ clash (is_some (home a)) (and_parts (nat_lt k 8) (is_some (home a)) there).1 parts.1
           ]
 
 pub given_all : (old one two new : List Part) (f : Frame) (values : List Operand) → length values ≤ 64 → list_all (is_operand f) values ≡ true →

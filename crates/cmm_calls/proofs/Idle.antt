@@ -2,7 +2,7 @@
 use Rattle.std.proofs.Common.{◌≡◌, ◌≢◌, inl, inr, ℕ, suc, ◌+◌, ◌-◌, ◌*◌, ◌<◌, ◌≤◌, Bool, true, false, List, [], ◌∷◌, ◌++◌, length, refl, sym, ◌∙◌, ap, subst, arith, pos, Option, Some, None}
 use Rattle.std.specs.Prelude.{◌==◌, ◌&&◌, not, is_some}
 use Rattle.std.specs.List.{list_all}
-use Rattle.std.proofs.lemmas.Bool.{cases_lt}
+use Rattle.std.proofs.lemmas.Bool.{cases_lt, and_parts}
 use Rattle.std.proofs.lemmas.Bool.Decides.{nat_tests}
 use Rattle.cmm_abi.specs.Regions.{value_place, word_at}
 use Rattle.cmm_abi.specs.Registers.{is_callee_saves}
@@ -21,7 +21,7 @@ use Rattle.cmm_select.specs.declared.destination.Destination.TheVariants.{Place,
 use Rattle.cmm_calls.proofs.Arrived.{last_is}
 use Rattle.cmm_calls.proofs.Copied.{puts_global_after}
 use Rattle.cmm_calls.proofs.Moved.{by_both, by_of, by_weaker, leads_by, moves_one}
-use Rattle.cmm_calls.proofs.Standing.{both, frame_stays}
+use Rattle.cmm_calls.proofs.Standing.{frame_stays}
 use Rattle.cmm_calls.proofs.Taken.{no_scratch_value, puts_after, value_in_area, value_in_register}
 use Rattle.cmm_calls.proofs.Tests.{unlike}
 use Rattle.cmm_calls.specs.Copying.{CopiesIn, PutsEachTo, is_destination, values_to}
@@ -72,7 +72,7 @@ one_to_spare : (to : List Destination) → begins_idle to ≡ true → 1 + copy_
 one_to_spare [] idle = absurd (cc (idle))
 one_to_spare (d ∷ to) idle =
     let h = at_most_five to in
-    let four = four_of d (both (is_some (register_of d)) (not (is_some (last_to (register_of d) to))) idle).0 in
+    let four = four_of d (and_parts (is_some (register_of d)) (not (is_some (last_to (register_of d) to))) idle).0 in
     omega (arith, h, four)
   where
     four_of : (d : Destination) → is_some (register_of d) ≡ true → cost_of d ≡ 4
@@ -82,7 +82,7 @@ one_to_spare (d ∷ to) idle =
 -- the first value does not come from where it goes
 not_ten : (f : Frame) (d : Destination) (r : ℕ) → is_destination f d ≡ true → register_of d ≡ Some r → r ≢ 10
 not_ten f (Place (Slot o)) r is h e = absurd (cc (h))
-not_ten f (Place (Saved k)) r is h e = let w : k ≡ r = cc (h) in let ok = (both (is_callee_saves k) _ is).0 in grind (arith, nat_tests, ok, w, e)
+not_ten f (Place (Saved k)) r is h e = let w : k ≡ r = cc (h) in let ok = (and_parts (is_callee_saves k) _ is).0 in grind (arith, nat_tests, ok, w, e)
 not_ten f (Place (Temp k)) r is h e = let w : k ≡ r = cc (h) in grind (arith, nat_tests, is, w, e)
 not_ten f (Register l) r is h e = absurd (cc (h))
 
@@ -120,7 +120,7 @@ copied_plainly old new f to good idle adds =
   where
     at_least_one : (to : List Destination) → 0 < length to → list_all (is_destination f) to ≡ true → begins_idle to ≡ false → 1 ≤ copy_least to
     at_least_one [] more good idle = absurd (omega (arith, more))
-    at_least_one (d ∷ to) more good idle = begins f d to (both (is_destination f d) (list_all (is_destination f) to) good).0 idle
+    at_least_one (d ∷ to) more good idle = begins f d to (and_parts (is_destination f d) (list_all (is_destination f) to) good).0 idle
 
 pub copied_idly : (old mid new : List Part) (f : Frame) (to : List Destination) → begins_idle to ≡ true → Adds 1 old mid (λ x from on. One (Addi 5 5 (pos 0)) x from on) →
     Adds (copy_cost to) mid new (CopiesAll (copy_least to) (copy_cost to) f.size to) → Adds (5 * length to) old new (CopiesIn (5 * length to) f to)

@@ -1,4 +1,5 @@
 -- Numbers go from registers to registers.
+use Rattle.std.proofs.lemmas.Bool.{or_parts, and_parts, not-false}
 use Rattle.std.proofs.Common.{◌≡◌, ◌≢◌, inl, inr, ℕ, zero, suc, ◌+◌, ◌*◌, ◌<◌, ◌≤◌, true, false, List, [], ◌∷◌, ◌++◌, length, take, get_or, refl, sym, ◌∙◌, ap, subst, arith, pos}
 use Rattle.std.specs.Prelude.{◌==◌, ◌&&◌, not, Bool, if◌then◌else◌}
 use Rattle.std.proofs.lemmas.Bool.Decides.{nat_tests}
@@ -15,7 +16,7 @@ use Rattle.cmm_effects.proofs.Shared.{adds_none, adds_then, adds_weaker, leads_s
 use Rattle.cmm_effects.specs.Changes.{Sets}
 use Rattle.cmm_effects.specs.Pieces.{Adds, Always, BeginsQuietly, Leads}
 use Rattle.cmm_select.proofs.Shared.{One, plus_none, set_as}
-use Rattle.cmm_calls.proofs.Tests.{alike, either_false, itself}
+use Rattle.cmm_calls.proofs.Tests.{alike, itself}
 use Rattle.cmm_calls.specs.Values.{Passes}
 use Rattle.cmm_calls.specs.inside.Giving.{one_if}
 use Rattle.cmm_calls.specs.inside.Moves.{MovesAtOnce, MovesInOrder, PassesBy, begins_moving, is_movable}
@@ -77,18 +78,13 @@ module _ {x : Code} {from mid to : ℕ} {P R : MemoryMap → State → Type 0} {
 pub movable : (r : ℕ) → is_movable r ≡ true → (r ≢ 0) × (r < 32)
 movable r is = (grind (arith, nat_tests, is), grind (arith, nat_tests, is))
 
-both_movable : (a b : Bool) → not (a && b) ≡ false → (a ≡ true) × (b ≡ true)
-both_movable true true h = (refl, refl)
-both_movable true false h = absurd (cc)
-both_movable false b h = absurd (cc)
-
 pub inside_at : (moves : List Move) (i : ℕ) (d : Move) → is_outside is_movable moves ≡ false → i < length moves →
     (is_movable (get_or moves i d).to ≡ true) × (is_movable (get_or moves i d).from ≡ true)
 inside_at [] i d all within = absurd (omega (arith, within))
 inside_at (m ∷ moves) zero d all within =
-    both_movable (is_movable m.to) (is_movable m.from) (either_false (not (is_movable m.to && is_movable m.from)) (is_outside is_movable moves) all).0
+    (and_parts (is_movable m.to) (is_movable m.from) (not-false _ (or_parts (not (is_movable m.to && is_movable m.from)) (is_outside is_movable moves) all).0))
 inside_at (m ∷ moves) (suc i) d all within =
-    inside_at moves i d (either_false (not (is_movable m.to && is_movable m.from)) (is_outside is_movable moves) all).1 (omega (arith, within))
+    inside_at moves i d (or_parts (not (is_movable m.to && is_movable m.from)) (is_outside is_movable moves) all).1 (omega (arith, within))
 
 pub moves_one : (x : Code) (r k from to : ℕ) → r ≢ 0 → One (Addi r k (pos 0)) x from to →
     Leads 1 Always (λ s t. Sets r (s.registers k) s t) x from to
@@ -148,7 +144,7 @@ least_moves (m ∷ ms) (one ∷ done) clear same = few (not (m.to == m.from)) (l
 least_moves (m ∷ ms) [] clear same = by (m.to == m.from) refl
   where
     apart : m.to ≢ 5
-    apart e = let off = (either_false (5 == m.to) (is_target 5 ms) clear).0 in grind (arith, nat_tests, off, e)
+    apart e = let off = (or_parts (5 == m.to) (is_target 5 ms) clear).0 in grind (arith, nat_tests, off, e)
 
     there : m.to ≡ m.from
     there = same (λ n. n) m.to apart ∙ ap (λ (b : Bool). if b then m.from else at_once ms (λ n. n) m.to) (itself m.to)

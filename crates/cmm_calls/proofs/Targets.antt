@@ -1,4 +1,5 @@
 -- Values come to places, which are destinations.
+use Rattle.std.proofs.lemmas.Bool.{and_parts}
 use Rattle.std.proofs.Common.{◌≡◌, ℕ, zero, suc, ◌*◌, ◌<◌, ◌≤◌, true, List, [], ◌∷◌, length, map, refl, arith}
 use Rattle.std.specs.Prelude.{slice_index_or}
 use Rattle.std.specs.List.{All, list_all}
@@ -14,7 +15,7 @@ use Rattle.cmm_select.specs.declared.destination.Destination.{Destination}
 use Rattle.cmm_select.specs.declared.destination.Destination.TheVariants.{Place}
 use Rattle.cmm_calls.proofs.Copied.{puts_places}
 use Rattle.cmm_calls.proofs.Moved.{passes_by, passes_weaker}
-use Rattle.cmm_calls.proofs.Standing.{both, place_is}
+use Rattle.cmm_calls.proofs.Standing.{place_is}
 use Rattle.cmm_calls.specs.Copying.{IsGlobalBy, is_destination}
 use Rattle.cmm_calls.specs.Frames.{CanBeMade}
 use Rattle.cmm_calls.specs.Values.{TakesIn}
@@ -23,16 +24,16 @@ use Rattle.cmm_calls.specs.inside.Arriving.{CopiesAll, copy_cost, copy_least}
 pub are_destinations : (f : Frame) (places : List Location) → list_all (is_place f) places ≡ true → list_all (is_destination f) (map Place places) ≡ true
 are_destinations f [] all = refl
 are_destinations f (p ∷ places) all =
-    let parts = both (is_place f p) (list_all (is_place f) places) all in
+    let parts = and_parts (is_place f p) (list_all (is_place f) places) all in
     rw (parts.0, are_destinations f places parts.1) refl
 
 pub are_labelled : (f : Frame) (labels : List Meaning) (places : List Location) → CanBeMade f → list_all (is_place f) places ≡ true → All (IsDestination labels) (map Place places)
 are_labelled f labels [] can all = λ k d within. absurd (omega (arith, within))
 are_labelled f labels (p ∷ places) can all =
-    λ k d within. one k d within (are_labelled f labels places can (both (is_place f p) (list_all (is_place f) places) all).1)
+    λ k d within. one k d within (are_labelled f labels places can (and_parts (is_place f p) (list_all (is_place f) places) all).1)
   where
     one : (k : ℕ) (d : Destination) → k < length (map Place (p ∷ places)) → All (IsDestination labels) (map Place places) → IsDestination labels (slice_index_or (map Place (p ∷ places)) k d)
-    one zero d within rest = place_is f p can (both (is_place f p) (list_all (is_place f) places) all).0
+    one zero d within rest = place_is f p can (and_parts (is_place f p) (list_all (is_place f) places) all).0
     one (suc k) d within rest = rest k d (omega (arith, within))
 
 pub no_globals : (at : ℕ → ℕ) (places : List Location) → All (IsGlobalBy at) (map Place places)

@@ -24,18 +24,3 @@ is_under a b h = grind (arith, nat_tests, h)
 
 pub at_least : (k : ℕ) → nat_le 8 k ≡ true → 8 ≤ k
 at_least k h = grind (arith, nat_tests, h)
-
-pub either_false : (a b : Bool) → (a || b) ≡ false → (a ≡ false) × (b ≡ false)
-either_false true b h = absurd (cc (h))
-either_false false b h = (refl, h)
-
-pub neither : (c d : Bool) → c ≡ false → d ≡ false → (c || d) ≡ false
-neither c d h g = rw (h, g) refl
-
-pub right_true : (c d : Bool) → d ≡ true → (c || d) ≡ true
-right_true true d h = refl
-right_true false d h = h
-
-pub either_true : (c d : Bool) → (c || d) ≡ true → (c ≡ true) ⊎ (d ≡ true)
-either_true true d h = inl refl
-either_true false d h = inr h

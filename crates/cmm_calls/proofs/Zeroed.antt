@@ -1,4 +1,5 @@
 -- Numbers that are all where they are to be were put there one after the other, and the other way round: for zeros and formals together.
+use Rattle.std.proofs.lemmas.Bool.{and_parts, or_parts, or_from, or_right, or_cases}
 use Rattle.std.proofs.Common.{◌≡◌, ◌⊎◌, inl, inr, ℕ, suc, ◌+◌, ◌≤◌, Bool, true, false, List, [], ◌∷◌, ◌++◌, length, map, refl, sym, ◌∙◌, ap, subst, arith, Option, Some, None}
 use Rattle.std.specs.Prelude.{◌==◌, ◌||◌, is_some, if◌then◌else◌}
 use Rattle.std.specs.List.{list_all, list_any}
@@ -16,8 +17,7 @@ use Rattle.cmm_select.specs.Destinations.{PutsTo}
 use Rattle.cmm_select.specs.declared.destination.Destination.{Destination}
 use Rattle.cmm_select.specs.declared.destination.Destination.TheVariants.{Place, Register}
 use Rattle.cmm_calls.proofs.Arrived.{put_beside, puts_one}
-use Rattle.cmm_calls.proofs.Standing.{both}
-use Rattle.cmm_calls.proofs.Tests.{alike, either_false, either_true, neither, right_true}
+use Rattle.cmm_calls.proofs.Tests.{alike}
 use Rattle.cmm_calls.specs.Copying.{PutsEachTo, is_destination, values_to}
 use Rattle.cmm_calls.specs.Frames.{PutsEach, stored_words, zeros}
 use Rattle.cmm_calls.specs.Values.{values_for}
@@ -40,7 +40,7 @@ register_seen k n s u r kept puts = by (r == k) refl
   where
     by : (c : Bool) → (r == k) ≡ c → u.registers r ≡ (if c then n else s.registers r)
     by true is = ap u.registers (alike r k is) ∙ puts.0
-    by false is = puts.1 r (neither (r == k) (is_scratch r) is kept)
+    by false is = puts.1 r (or_from (r == k) (is_scratch r) is kept)
 
 registers_seen : (at : ℕ → ℕ) (d : Destination) (n : ℕ) (s u : State) (r : ℕ) → is_scratch r ≡ false → PutsTo at d n s u → u.registers r ≡ put_register (register_of d) n s.registers r
 registers_seen at (Place (Slot o)) n s u r kept puts = puts.registers r kept
@@ -57,7 +57,7 @@ memory_seen at (Register l) n s u puts = puts.memory
 pub end_from_puts : (f : Frame) (at : ℕ → ℕ) (list : List (Destination × ℕ)) (s t : State) → are_good f list ≡ true → PutsEachTo at list s t → HasAllTo at list s t
 end_from_puts f at [] s t good same = record { registers = λ r kept. ap (λ (w : State). w.registers r) (sym same); memory = ap (λ (w : State). w.memory) (sym same) }
 end_from_puts f at ((d, n) ∷ rest) s t good puts =
-    let parts = both (is_destination f d) (are_good f rest) good in
+    let parts = and_parts (is_destination f d) (are_good f rest) good in
     let u = puts.0 in
     let later = end_from_puts f at rest u t parts.1 puts.2 in
     let two = registers_seen at d n s u 2 refl puts.1 ∙ put_beside f d n 2 s.registers parts.0 (omega arith) in
@@ -72,12 +72,12 @@ end_from_puts f at ((d, n) ∷ rest) s t good puts =
 
 pub puts_from_any : (f : Frame) (at : ℕ → ℕ) (d : Destination) (n : ℕ) (rest : List (Destination × ℕ)) (s t : State) → are_good f ((d, n) ∷ rest) ≡ true → HasAllTo at ((d, n) ∷ rest) s t →
     PutsEachTo at ((d, n) ∷ rest) s t
-puts_from_any f at d n [] s t good has = (t, puts_one f at d n s t (both (is_destination f d) true good).0 has.registers has.memory, refl)
+puts_from_any f at d n [] s t good has = (t, puts_one f at d n s t (and_parts (is_destination f d) true good).0 has.registers has.memory, refl)
 puts_from_any f at d n ((e, m) ∷ rest) s t good has =
     (between, puts_one f at d n s between parts.0 (λ r kept. refl) refl, puts_from_any f at e m rest between t parts.1 later)
   where
     parts : (is_destination f d ≡ true) × (are_good f ((e, m) ∷ rest) ≡ true)
-    parts = both (is_destination f d) (are_good f ((e, m) ∷ rest)) good
+    parts = and_parts (is_destination f d) (are_good f ((e, m) ∷ rest)) good
 
     between : State
     between = record { registers = put_register (register_of d) n s.registers; pc = t.pc; memory = put_memory at d n (s.registers 2) (s.registers 4) s.memory }
@@ -117,7 +117,7 @@ is_put (Some k) n r g one = ap (λ (c : Bool). if c then n else g r) (turned r k
 beside_all : (list : List (Destination × ℕ)) (g : ℕ → ℕ) (r : ℕ) → has_target r list ≡ false → after_registers list g r ≡ g r
 beside_all [] g r none = refl
 beside_all ((d, n) ∷ rest) g r none =
-    let parts = either_false (is_register r (register_of d)) (has_target r rest) none in
+    let parts = or_parts (is_register r (register_of d)) (has_target r rest) none in
     beside_all rest (put_register (register_of d) n g) r parts.1 ∙ not_put (register_of d) n r g parts.0
 
 whatever_was : (list : List (Destination × ℕ)) (g h : ℕ → ℕ) (r : ℕ) → has_target r list ≡ true → after_registers list g r ≡ after_registers list h r
@@ -218,25 +218,25 @@ are_placed f list = list_all (λ p. is_place f p.0) list
 good_placed : (f : Frame) (list : List (Location × ℕ)) → are_placed f list ≡ true → are_good f (as_destinations list) ≡ true
 good_placed f [] all = refl
 good_placed f ((p, n) ∷ rest) all =
-    let parts = both (is_place f p) (are_placed f rest) all in
+    let parts = and_parts (is_place f p) (are_placed f rest) all in
     rw (parts.0, good_placed f rest parts.1) refl
 
 pub zeros_placed : (f : Frame) (places : List Location) → list_all (is_place f) places ≡ true → are_placed f (zeros places) ≡ true
 zeros_placed f [] all = refl
 zeros_placed f (p ∷ places) all =
-    let parts = both (is_place f p) (list_all (is_place f) places) all in
+    let parts = and_parts (is_place f p) (list_all (is_place f) places) all in
     rw (parts.0, zeros_placed f places parts.1) refl
 
 pub values_placed : (f : Frame) (region : Region) (k : ℕ) (places : List Location) (s : State) → list_all (is_place f) places ≡ true → are_placed f (values_for region k places s) ≡ true
 values_placed f region k [] s all = refl
 values_placed f region k (p ∷ places) s all =
-    let parts = both (is_place f p) (list_all (is_place f) places) all in
+    let parts = and_parts (is_place f p) (list_all (is_place f) places) all in
     rw (parts.0, values_placed f region (suc k) places s parts.1) refl
 
 both_placed : (f : Frame) (xs ys : List (Location × ℕ)) → are_placed f xs ≡ true → are_placed f ys ≡ true → are_placed f (xs ++ ys) ≡ true
 both_placed f [] ys one two = two
 both_placed f ((p, n) ∷ xs) ys one two =
-    let parts = both (is_place f p) (are_placed f xs) one in
+    let parts = and_parts (is_place f p) (are_placed f xs) one in
     rw (parts.0, both_placed f xs ys parts.1 two) refl
 
 -- there are no labels
@@ -296,7 +296,7 @@ left_by true formals p k r rest again e none (inl same) =
     absurd (cc (yes, none))
 left_by true formals p k r rest again e none (inr later) = later
 left_by false formals p k r rest again e none (inl same) = ap (λ (b : Bool). b || has_target r (zero_pairs (map Place rest))) (e ∙ same)
-left_by false formals p k r rest again e none (inr later) = right_true (is_register r (register_of (Place p))) (has_target r (zero_pairs (map Place rest))) later
+left_by false formals p k r rest again e none (inr later) = or_right (is_register r (register_of (Place p))) (has_target r (zero_pairs (map Place rest))) later
 
 left_in : (formals : List Destination) (places : List Location) (r : ℕ) → is_again r formals ≡ false → has_target r (zero_pairs (map Place places)) ≡ true →
     has_target r (zero_pairs (map Place (zeroed_in false formals places))) ≡ true
@@ -304,10 +304,10 @@ left_in formals [] r none one = one
 left_in formals (Slot o ∷ places) r none one = left_in formals places r none one
 left_in formals (Saved k ∷ places) r none one =
     left_by (is_again k formals) formals (Saved k) k r (zeroed_in false formals places) refl refl none
-    (elim (either_true (k == r) (has_target r (zero_pairs (map Place places))) one) [ inl same ↦ inl same | inr later ↦ inr (left_in formals places r none later) ])
+    (elim (or_cases (k == r) (has_target r (zero_pairs (map Place places))) one) [ inl same ↦ inl same | inr later ↦ inr (left_in formals places r none later) ])
 left_in formals (Temp k ∷ places) r none one =
     left_by (is_again k formals) formals (Temp k) k r (zeroed_in false formals places) refl refl none
-    (elim (either_true (k == r) (has_target r (zero_pairs (map Place places))) one) [ inl same ↦ inl same | inr later ↦ inr (left_in formals places r none later) ])
+    (elim (or_cases (k == r) (has_target r (zero_pairs (map Place places))) one) [ inl same ↦ inl same | inr later ↦ inr (left_in formals places r none later) ])
 
 -- and those that stay are such
 abbrev IsLeft : List Destination → List Location → ℕ → Type 0
@@ -317,14 +317,14 @@ from_by : (c : Bool) (formals : List Destination) (p : Location) (k r : ℕ) (pl
     (has_target r (zero_pairs (map Place rest)) ≡ true → IsLeft formals places r) → has_target r (zero_pairs (map Place (chosen (is_some (unless c k)) p ++ rest))) ≡ true → IsLeft formals (p ∷ places) r
 from_by true formals p k r places rest again e more one =
     let later = more one in
-    (right_true (is_register r (register_of (Place p))) (has_target r (zero_pairs (map Place places))) later.0, later.1)
-from_by false formals p k r places rest again e more one = elim (either_true (is_register r (register_of (Place p))) (has_target r (zero_pairs (map Place rest))) one) [
+    (or_right (is_register r (register_of (Place p))) (has_target r (zero_pairs (map Place places))) later.0, later.1)
+from_by false formals p k r places rest again e more one = elim (or_cases (is_register r (register_of (Place p))) (has_target r (zero_pairs (map Place rest))) one) [
   | inl same ↦ (
     ap (λ (b : Bool). b || has_target r (zero_pairs (map Place places))) same,
     ap (λ (n : ℕ). is_again n formals) (sym (alike k r (sym e ∙ same))) ∙ again,
   )
   | inr rest_has ↦ let later = more rest_has in
-      (right_true (is_register r (register_of (Place p))) (has_target r (zero_pairs (map Place places))) later.0, later.1)
+      (or_right (is_register r (register_of (Place p))) (has_target r (zero_pairs (map Place places))) later.0, later.1)
 ]
 
 is_left : (formals : List Destination) (places : List Location) (r : ℕ) → has_target r (zero_pairs (map Place (zeroed_in false formals places))) ≡ true → IsLeft formals places r
@@ -379,7 +379,7 @@ list_placed f false p rest is all = all
 pub zeroed_placed : (f : Frame) (slots : Bool) (formals : List Destination) (places : List Location) → list_all (is_place f) places ≡ true → list_all (is_place f) (zeroed_in slots formals places) ≡ true
 zeroed_placed f slots formals [] all = refl
 zeroed_placed f slots formals (p ∷ places) all =
-    let parts = both (is_place f p) (list_all (is_place f) places) all in
+    let parts = and_parts (is_place f p) (list_all (is_place f) places) all in
     list_placed f (is_zeroed_in slots formals p) p (zeroed_in slots formals places) parts.0 (zeroed_placed f slots formals places parts.1)
 
 one_more : (b : Bool) (p : Location) (rest : List Location) → length (chosen b p ++ rest) ≤ suc (length rest)

@@ -1,4 +1,5 @@
 -- what the youngest activation holds, and values put into its places
+use Rattle.std.proofs.lemmas.Bool.{and_parts}
 use Rattle.std.proofs.Common.{◌≡◌, ℕ, ◌<◌, List, Some, arith, refl, ap}
 use Rattle.std.proofs.lemmas.Bool.Decides.{nat_tests}
 use Rattle.cmm_chain.specs.declared.frame.Location.TheVariants.{Slot, Saved, Temp}
@@ -9,7 +10,7 @@ use Rattle.cmm_chain.specs.Chain.{Suspension, behind}
 use Rattle.cmm_chain.specs.Running.{Holdings, put_in, IsFramed}
 use Rattle.cmm_chain.specs.Laws.{PutIsHeld, OthersStay, PutKeepsFrame, WriteKeepsValues}
 use Rattle.cmm_chain.proofs.Lasting.{chain_outlives}
-use Rattle.cmm_chain.proofs.Offsets.{both, some_of, IsFresh, fresh, fresh_front, word_inside, saved_among, pair_among}
+use Rattle.cmm_chain.proofs.Offsets.{some_of, IsFresh, fresh, fresh_front, word_inside, saved_among, pair_among}
 
 pub put_is_held : PutIsHeld
 put_is_held (Slot offset) c h = grind (arith, nat_tests)
@@ -53,10 +54,10 @@ module _ (plan : Plan) (top q : ℕ) (older : List Suspension) (h : Holdings) (c
 
 pub put_keeps_frame : PutKeepsFrame
 put_keeps_frame plan top q older h (Slot offset) c is laid framed =
-    let parts = both (is_word_in (plan.frame q).size offset) (is_fresh offset (fixed_offsets (plan.frame q))) is in
+    let parts = and_parts (is_word_in (plan.frame q).size offset) (is_fresh offset (fixed_offsets (plan.frame q))) is in
     slot_keeps plan top q older h c framed offset (omega (arith, word_inside (plan.frame q).size offset parts.0)) (fresh offset (fixed_offsets (plan.frame q)) parts.1)
 put_keeps_frame plan top q older h (Saved r) c is laid framed =
-    let saves = some_of (saved_at plan q r) (both (is_callee_saves r) _ is).1 in
+    let saves = some_of (saved_at plan q r) (and_parts (is_callee_saves r) _ is).1 in
     saved_keeps plan top q older h c framed r saves.0 saves.1
 put_keeps_frame plan top q older h (Temp r) c is laid framed = record { pairs = framed.pairs; chain = framed.chain }
 

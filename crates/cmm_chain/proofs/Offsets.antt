@@ -1,14 +1,11 @@
 -- what the tests of layouts say
+use Rattle.std.proofs.lemmas.Bool.{and_parts}
 use Rattle.std.proofs.Common.{◌≡◌, ◌≢◌, ℕ, zero, suc, ◌+◌, ◌≤◌, ◌%◌, ◌==◌, ◌&&◌, not, Bool, true, false, List, [], ◌∷◌, ◌++◌, Option, Some, None, arith, refl}
 use Rattle.std.specs.Prelude.{slice_get, nat_le, is_some}
 use Rattle.std.specs.List.{list_all}
 use Rattle.std.proofs.lemmas.Bool.Decides.{nat_tests}
 use Rattle.cmm_chain.specs.declared.frame.Frame.{Frame}
 use Rattle.cmm_chain.specs.Plans.{saved_in, saved_offsets, pair_offsets, fixed_offsets, is_fresh, are_distinct, is_word_in, is_laid}
-
-pub both : (a b : Bool) → (a && b) ≡ true → (a ≡ true) × (b ≡ true)
-both true b is = (refl, is)
-both false b is = absurd (cc)
 
 pub other_number : (a b : ℕ) → not (a == b) ≡ true → a ≢ b
 other_number a b is = grind (arith, nat_tests)
@@ -38,28 +35,28 @@ pub record IsLaidOut (f : Frame) : Type 0 where
 pub fresh : (o : ℕ) (os : List ℕ) → is_fresh o os ≡ true → IsFresh o os
 fresh o [] is = tt
 fresh o (other ∷ os) is =
-    let parts = both (not (o == other)) (is_fresh o os) is in
+    let parts = and_parts (not (o == other)) (is_fresh o os) is in
     (other_number o other parts.0, fresh o os parts.1)
 
 pub distinct : (os : List ℕ) → are_distinct os ≡ true → AreDistinct os
 distinct [] is = tt
 distinct (o ∷ os) is =
-    let parts = both (is_fresh o os) (are_distinct os) is in
+    let parts = and_parts (is_fresh o os) (are_distinct os) is in
     (fresh o os parts.0, distinct os parts.1)
 
 pub word_inside : (size o : ℕ) → is_word_in size o ≡ true → o + 8 ≤ size
-word_inside size o is = let parts = both (o % 8 == 0) (nat_le (o + 8) size) is in grind (arith, nat_tests, parts.1)
+word_inside size o is = let parts = and_parts (o % 8 == 0) (nat_le (o + 8) size) is in grind (arith, nat_tests, parts.1)
 
 pub inside : (size : ℕ) (os : List ℕ) → list_all (is_word_in size) os ≡ true → AreInside size os
 inside size [] is = tt
 inside size (o ∷ os) is =
-    let parts = both (is_word_in size o) (list_all (is_word_in size) os) is in
+    let parts = and_parts (is_word_in size o) (list_all (is_word_in size) os) is in
     (word_inside size o parts.0, inside size os parts.1)
 
 pub laid_out : (f : Frame) → is_laid f ≡ true → IsLaidOut f
 laid_out f is =
-    let words = (both (f.size % 16 == 0) _ is).1 in
-    let parts = both (list_all (is_word_in f.size) (fixed_offsets f)) (are_distinct (fixed_offsets f)) words in
+    let words = (and_parts (f.size % 16 == 0) _ is).1 in
+    let parts = and_parts (list_all (is_word_in f.size) (fixed_offsets f)) (are_distinct (fixed_offsets f)) words in
     record { distinct = distinct (fixed_offsets f) parts.1; inside = inside f.size (fixed_offsets f) parts.0 }
 
 -- ---- parts of a list of offsets

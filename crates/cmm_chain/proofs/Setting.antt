@@ -1,4 +1,5 @@
 -- the client changes a local of a suspended activation
+use Rattle.std.proofs.lemmas.Bool.{and_parts}
 use Rattle.std.proofs.Common.{◌≡◌, ◌≢◌, ℕ, zero, suc, ◌+◌, ◌<◌, ◌≤◌, Bool, true, false, List, [], ◌∷◌, Option, Some, None, arith, refl, sym, ap, ◌∙◌, subst}
 use Rattle.std.specs.Prelude.{slice_get, is_some}
 use Rattle.std.proofs.lemmas.Bool.Decides.{nat_tests}
@@ -14,7 +15,7 @@ use Rattle.cmm_chain.specs.Walks.{Spot, InRegister, InStack, Mark, first_mark, m
 use Rattle.cmm_chain.specs.Laws.{MayBeSet, SetIsChain}
 use Rattle.cmm_chain.proofs.Lasting.{chain_outlives}
 use Rattle.cmm_chain.proofs.Holding.{put_keeps_frame}
-use Rattle.cmm_chain.proofs.Offsets.{both, IsFresh, IsLaidOut, laid_out, fresh, fresh_front, word_inside, inside_rest, saved_among, pair_among, saved_inside, pair_inside, saved_fresh, saved_apart}
+use Rattle.cmm_chain.proofs.Offsets.{IsFresh, IsLaidOut, laid_out, fresh, fresh_front, word_inside, inside_rest, saved_among, pair_among, saved_inside, pair_inside, saved_fresh, saved_apart}
 use Rattle.cmm_chain.proofs.Walking.{Stands, stands_first, stands_behind, walk_goes_on, walk_ends}
 
 -- ---- something else stands at a spot
@@ -51,9 +52,9 @@ module _ (plan : Plan) (before after : Contents) (p p' : Point) (at : p.at ≡ p
   found_stays : (q : ℕ) (l : Location) → is_place (plan.frame q) l ≡ true → SlotsStay (plan.frame q) p.at before after →
       ((r : ℕ) → is_some (saved_at plan q r) ≡ true → p.kept r ≡ p'.kept r) → found before p l ≡ found after p' l
   found_stays q (Slot o) is slots registers =
-      let parts = both (is_word_in (plan.frame q).size o) (is_fresh o (fixed_offsets (plan.frame q))) is in
+      let parts = and_parts (is_word_in (plan.frame q).size o) (is_fresh o (fixed_offsets (plan.frame q))) is in
       grind (arith, at, slots o (word_inside (plan.frame q).size o parts.0) (fresh o (fixed_offsets (plan.frame q)) parts.1))
-  found_stays q (Saved r) is slots registers = grind (arith, registers r (both (is_callee_saves r) _ is).1)
+  found_stays q (Saved r) is slots registers = grind (arith, registers r (and_parts (is_callee_saves r) _ is).1)
   found_stays q (Temp r) is slots registers = refl
 
   suspended_stays : (s : Suspension) → IsPlanned plan → p.back ≡ p'.back → SlotsStay (plan.frame s.procedure) p.at before after →

@@ -1,4 +1,5 @@
 -- Ranges in order: one more of them, and the last that begins no later than a number.
+use Rattle.cmm_program.proofs.Shared.{and_left_comm}
 use Rattle.std.proofs.Common.{◌≡◌, ℕ, ◌<◌, ◌≤◌, refl, ap, sym, ◌∙◌, subst, arith, Bool, true, false, not, cond, ◌&&◌, ◌||◌, List, [], ◌∷◌, ◌++◌, inl, inr}
 use Rattle.std.specs.Prelude.{nat_lt, nat_le, filter}
 use Rattle.std.specs.List.{list_all}
@@ -48,12 +49,6 @@ before_first r rs k v h = ap (λ o. match_ordering o ((k, v) ∷ r ∷ rs) ((r.0
 after_first : (r : ℕ × ℕ) (rs : List (ℕ × ℕ)) (k v : ℕ) → r.0 < k → insert_entry nat_cmp (r ∷ rs) k v ≡ r ∷ insert_entry nat_cmp rs k v
 after_first r rs k v h = ap (λ o. match_ordering o ((k, v) ∷ r ∷ rs) ((r.0, v) ∷ rs) (r ∷ insert_entry nat_cmp rs k v)) (greater_is k r.0 h)
 
-swapped : (a b c : Bool) → (a && (b && c)) ≡ (b && (a && c))
-swapped true true c = refl
-swapped true false c = refl
-swapped false true c = refl
-swapped false false c = refl
-
 pub record Inserted (rs : List (ℕ × ℕ)) (k v : ℕ) : Type 0 where
   pub in_order : are_in_order (insert_entry nat_cmp rs k v) ≡ true
   pub all : (p : ℕ × ℕ → Bool) → list_all p (insert_entry nat_cmp rs k v) ≡ (p (k, v) && list_all p rs)
@@ -71,7 +66,7 @@ inserted_later r rs k v lt h rest = let p = parts_of r rs h in let below : r.0 <
     let e = after_first r rs k v below in record {
       in_order = ap are_in_order e ∙ from_parts r (insert_entry nat_cmp rs k v) p.rises
           (rest.all (λ s. nat_lt r.1 s.0) ∙ and_from (nat_lt r.1 k) (list_all (λ s. nat_lt r.1 s.0) rs) (lt-ltb r.1 k lt) p.above) rest.in_order;
-      all = λ t. ap (list_all t) e ∙ ap (λ b. t r && b) (rest.all t) ∙ swapped (t r) (t (k, v)) (list_all t rs);
+      all = λ t. ap (list_all t) e ∙ ap (λ b. t r && b) (rest.all t) ∙ and_left_comm (t r) (t (k, v)) (list_all t rs);
     }
 
 -- a range that doesn't fall, and that meets none of them

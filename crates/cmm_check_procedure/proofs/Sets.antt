@@ -1,4 +1,6 @@
 -- Sets of extents: what is required of ranges in order, and of one more extent.
+use Rattle.cmm_program.proofs.Shared.{and_left_comm}
+use Rattle.std.proofs.Math.Bool.{and_assoc}
 use Rattle.std.proofs.Common.{◌≡◌, ℕ, refl, ap, sym, ◌∙◌, Bool, true, false, ◌&&◌, List, [], ◌∷◌, ◌++◌, map}
 use Rattle.std.specs.Prelude.{Result, Ok, Err, OnOk, OnErr}
 use Rattle.std.specs.List.{list_all}
@@ -20,16 +22,6 @@ pub still_in_order : {T E : Type 0} (r : Result T E) (rs new : List (ℕ × ℕ)
 still_in_order (Ok a) rs new k v is same h inserted = ap are_in_order is ∙ inserted.in_order
 still_in_order (Err e) rs new k v is same h inserted = ap are_in_order same ∙ h
 
-swapped : (a b c : Bool) → (a && (b && c)) ≡ (b && (a && c))
-swapped true true c = refl
-swapped true false c = refl
-swapped false true c = refl
-swapped false false c = refl
-
-and_assoc : (a b c : Bool) → ((a && b) && c) ≡ (a && (b && c))
-and_assoc true b c = refl
-and_assoc false b c = refl
-
 -- one more range among the sorted ones
 pub one_more_sorted : (x : Extent) (k v : ℕ) (rs new : List (ℕ × ℕ)) (others : List Extent) → Inserted rs k v → new ≡ insert_entry nat_cmp rs k v →
     meets_none_of (map pair_extent new ++ others) x ≡ (are_apart (record { low = k; high = v }) x && meets_none_of (map pair_extent rs ++ others) x)
@@ -42,7 +34,7 @@ one_more_sorted x k v rs new others inserted is =
 
 last_first : (x y : Extent) (es : List Extent) → meets_none_of (es ++ y ∷ []) x ≡ (are_apart y x && meets_none_of es x)
 last_first x y [] = refl
-last_first x y (e ∷ es) = ap (λ b. are_apart e x && b) (last_first x y es) ∙ swapped (are_apart e x) (are_apart y x) (meets_none_of es x)
+last_first x y (e ∷ es) = ap (λ b. are_apart e x && b) (last_first x y es) ∙ and_left_comm (are_apart e x) (are_apart y x) (meets_none_of es x)
 
 -- one more extent among the others
 pub one_more_other : (x y : Extent) (sorted others : List Extent) →
@@ -50,7 +42,7 @@ pub one_more_other : (x y : Extent) (sorted others : List Extent) →
 one_more_other x y sorted others =
     list_all-append (λ e. are_apart e x) sorted (others ++ y ∷ [])
     ∙ ap (λ b. meets_none_of sorted x && b) (last_first x y others)
-    ∙ swapped (meets_none_of sorted x) (are_apart y x) (meets_none_of others x)
+    ∙ and_left_comm (meets_none_of sorted x) (are_apart y x) (meets_none_of others x)
     ∙ ap (λ b. are_apart y x && b) (sym (list_all-append (λ e. are_apart e x) sorted others))
 
 -- the answer for both, where neither is left out

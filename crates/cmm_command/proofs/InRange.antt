@@ -4,7 +4,7 @@ use Rattle.std.specs.Prelude.{◌==◌, ◌&&◌, nat_le, IfSome, codes}
 use Rattle.std.specs.List.{All, list_all}
 use Rattle.std.proofs.lemmas.List.Elements.{All-cons, All-nil}
 use Rattle.std.proofs.lemmas.Bool.Decides.{nat_tests}
-use Rattle.std.proofs.lemmas.Bool.{eqb-true}
+use Rattle.std.proofs.lemmas.Bool.{eqb-true, and_parts}
 use Rattle.cmm_words.specs.Digits.{written}
 use Rattle.clap.specs.Words.{Row, Text, first_of, all_of}
 use Rattle.cmm_command.specs.declared.command.RunLimits.{RunLimits}
@@ -31,17 +31,12 @@ chosen : {A : Type 0} (test : Bool) (a b : A) → ◌≡◌ {A = Option A} (cond
 chosen true a b is = (refl, cc)
 chosen false a b is = absurd cc
 
-both : (a b : Bool) → (a && b) ≡ true → (a ≡ true) × (b ≡ true)
-both true true is = (refl, refl)
-both true false is = absurd cc
-both false b is = absurd cc
-
 -- a number that is read within a limit
 number_within : (most : ℕ) (text : List ℕ) (n : ℕ) → number_up_to most text ≡ Some n → n ≤ most
 number_within most text n is =
     let w = went (written 10 text) (λ m. cond (nat_le (length text) 20 && nat_le m most) (Some m) None) n is in
     let c = chosen (nat_le (length text) 20 && nat_le w.with_ most) w.with_ n w.next in
-    let b = both (nat_le (length text) 20) (nat_le w.with_ most) c.0 in
+    let b = and_parts (nat_le (length text) 20) (nat_le w.with_ most) c.0 in
     let at : nat_le n most ≡ true = subst (λ m. nat_le m most ≡ true) c.1 b.1 in grind (arith, nat_tests)
 
 abbrev IsStack : ℕ → Type 0
@@ -78,7 +73,7 @@ name_short text name is =
 all_short : (names : List Text) → list_all (λ name. nat_le (length name) 4095) names ≡ true → All IsName names
 all_short [] are = All-nil IsName
 all_short (name ∷ names) are =
-    let b = both (nat_le (length name) 4095) (list_all (λ n. nat_le (length n) 4095) names) are in
+    let b = and_parts (nat_le (length name) 4095) (list_all (λ n. nat_le (length n) 4095) names) are in
     let low : nat_le (length name) 4095 ≡ true = b.0 in
     let here : IsName name = grind (arith, nat_tests) in
     All-cons IsName name names here (all_short names b.1)

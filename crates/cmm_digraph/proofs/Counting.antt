@@ -1,4 +1,5 @@
 -- How often nodes stand in lists, and how many pass a test.
+use Rattle.std.proofs.Math.Bool.{and_assoc}
 use Rattle.std.proofs.Common.{◌≡◌, ℕ, suc, zero, ◌+◌, ◌<◌, ◌≤◌, ◌==◌, inl, inr, Bool, true, false, ◌||◌, ◌&&◌, not, List, [], ◌∷◌, ◌++◌, length, set, get_or, refl, sym, ◌∙◌, ap, subst, append_assoc, append-nil, arith}
 use Rattle.std.specs.Prelude.{nat_lt}
 use Rattle.std.specs.List.{list_all, list_any}
@@ -187,15 +188,11 @@ missing_some done (m ∷ ms) h = some_missing done m ms (is_among m done) refl h
 
 -- ---- orders
 
-and_assoc : (a b c : Bool) → (a && (b && c)) ≡ ((a && b) && c)
-and_assoc true b c = refl
-and_assoc false b c = refl
-
 pub ordered-append : (graph : List (List ℕ)) (before xs ys : List ℕ) → is_ordered graph before (xs ++ ys) ≡ (is_ordered graph before xs && is_ordered graph (before ++ xs) ys)
 ordered-append graph before [] ys = ap (λ q. is_ordered graph q ys) (sym (append-nil before))
 ordered-append graph before (x ∷ xs) ys =
     ap (λ b. are_among (mentions graph x) before && b) (ordered-append graph (before ++ x ∷ []) xs ys ∙ ap (λ q. is_ordered graph (before ++ x ∷ []) xs && is_ordered graph q ys) (append_assoc before (x ∷ []) xs))
-    ∙ and_assoc (are_among (mentions graph x) before) (is_ordered graph (before ++ x ∷ []) xs) (is_ordered graph (before ++ x ∷ xs) ys)
+    ∙ (sym (and_assoc (are_among (mentions graph x) before) (is_ordered graph (before ++ x ∷ []) xs) (is_ordered graph (before ++ x ∷ xs) ys)))
 
 -- nodes that mention only what stands before all of them
 pub ordered_from : (graph : List (List ℕ)) (before xs : List ℕ) → list_all (λ u. are_among (mentions graph u) before) xs ≡ true → is_ordered graph before xs ≡ true

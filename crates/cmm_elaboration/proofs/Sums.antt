@@ -1,4 +1,5 @@
 -- Sums over all call sites of accepted units: of their procedures' variables, and of the tokens that have a span there.
+use Rattle.cmm_program.proofs.Shared.{or_left_comm}
 use Rattle.std.proofs.Common.{◌≡◌, ℕ, suc, ◌+◌, ◌*◌, ◌<◌, ◌≤◌, refl, sym, ap, ◌∙◌, subst, Bool, true, false, List, [], ◌∷◌, ◌++◌, arith, length, Some, None, inl, inr, ◌⊎◌}
 use Rattle.std.specs.Prelude.{map, flat_map, sum_by, nat_lt, ◌==◌, ◌||◌}
 use Rattle.std.proofs.lemmas.List.{map-append}
@@ -70,12 +71,6 @@ Ascends (x ∷ xs) = ((y : ℕ) → is_in y (tokens xs) ≡ true → x.0 < y) ×
 or_same : (a b c : Bool) → b ≡ c → (a || b) ≡ (a || c)
 or_same a b c e = ap (λ x. a || x) e
 
-or_swap : (a b c : Bool) → (a || (b || c)) ≡ (b || (a || c))
-or_swap true true c = refl
-or_swap true false c = refl
-or_swap false true c = refl
-or_swap false false c = refl
-
 same_in : (n a b : ℕ) (c : Bool) → a ≡ b → ((n == b) || c) ≡ ((n == a) || ((n == b) || c))
 same_in n a b c e = subst (λ m. ((n == b) || c) ≡ ((n == m) || ((n == b) || c))) (sym e) (twice (n == b) c)
   where
@@ -87,7 +82,7 @@ in_by : (n : ℕ) (x y : SpanValue) (ys more : List SpanValue) (less same : Bool
     is_in n (tokens (elim less as (λ b. List SpanValue) [ true ↦ x ∷ y ∷ ys | false ↦ elim same as (λ b. List SpanValue) [ true ↦ x ∷ ys | false ↦ y ∷ more ] ])) ≡ ((n == x.0) || ((n == y.0) || is_in n (tokens ys)))
 in_by n x y ys more true same e later = refl
 in_by n x y ys more false true e later = ap (λ m. (n == m) || is_in n (tokens ys)) (eqb-true x.0 y.0 e) ∙ same_in n x.0 y.0 (is_in n (tokens ys)) (eqb-true x.0 y.0 e)
-in_by n x y ys more false false e later = or_same (n == y.0) _ _ later ∙ or_swap (n == y.0) (n == x.0) (is_in n (tokens ys))
+in_by n x y ys more false false e later = or_same (n == y.0) _ _ later ∙ or_left_comm (n == y.0) (n == x.0) (is_in n (tokens ys))
 
 in_with : (n : ℕ) (x : SpanValue) (ys : List SpanValue) → is_in n (tokens (with_span x ys)) ≡ ((n == x.0) || is_in n (tokens ys))
 in_with n x [] = refl

@@ -2,7 +2,7 @@
 use Rattle.std.proofs.Common.{◌≡◌, ℕ, zero, suc, Bool, true, false, nat_lt, List, [], ◌∷◌, ◌++◌, length, replicate, take, drop, Ok, Err, refl, ap, subst, ◌∙◌, arith}
 use Rattle.std.specs.Prelude.{◌==◌, ◌&&◌}
 use Rattle.std.specs.List.{list_all}
-use Rattle.std.proofs.lemmas.Bool.{eqb-true, le-ltb}
+use Rattle.std.proofs.lemmas.Bool.{eqb-true, le-ltb, and_parts}
 use Rattle.std.proofs.lemmas.List.{take_at, drop_at, length-append, length-replicate}
 use Rattle.std.proofs.lemmas.Slice.Eq.{bytes_eq-Decides}
 use Rattle.cmm_rules.specs.declared.rule.Rule.{Rule}
@@ -48,10 +48,6 @@ fixed-exact rule value =
 
 -- ---- padding
 
-both : (x y : Bool) → (x && y) ≡ true → (x ≡ true) × (y ≡ true)
-both true y h = (refl, h)
-both false y h = absurd cc
-
 cells : (a b : ℕ) (as_ bs : List ℕ) → a ≡ b → as_ ≡ bs → a ∷ as_ ≡ b ∷ bs
 cells a b as_ bs e f = cc
 
@@ -60,7 +56,7 @@ are_replicated [] zero len all = refl
 are_replicated [] (suc count) len all = absurd (omega arith)
 are_replicated (b ∷ t) zero len all = absurd (omega arith)
 are_replicated (b ∷ t) (suc count) len all =
-    let parts = both (b == 0) (list_all (λ byte. byte == 0) t) all in
+    let parts = and_parts (b == 0) (list_all (λ byte. byte == 0) t) all in
     cells b 0 t (replicate count 0) (eqb-true b 0 parts.0) (are_replicated t count (omega (arith, len)) parts.1)
 
 replicated_are : (count : ℕ) → list_all (λ byte. byte == 0) (replicate count 0) ≡ true

@@ -4,7 +4,7 @@ use Rattle.std.specs.Prelude.{◌&&◌, nat_le, nat_lt, is_some}
 use Rattle.std.specs.List.{list_all}
 use Rattle.std.proofs.lemmas.List.{length-map}
 use Rattle.std.proofs.lemmas.Option.{slice_get_within}
-use Rattle.std.proofs.lemmas.Bool.{and_parts}
+use Rattle.std.proofs.lemmas.Bool.{and_parts, and_from}
 use Rattle.std.proofs.lemmas.Bool.Decides.{nat_tests}
 use Rattle.cmm_words.specs.Widths.{bits}
 use Rattle.cmm_words.specs.declared.constant.Constant.{Constant}
@@ -55,16 +55,12 @@ use Rattle.cmm_flow.specs.Few.{passes_few}
 
 -- ---- tests
 
-pub join : (a b : Bool) → a ≡ true → b ≡ true → (a && b) ≡ true
-join true b is also = also
-join false b is also = absurd (cc)
-
 -- what one test says of all, another says
 pub all_so : {A : Type 0} (first second : A → Bool) (xs : List A) → ((x : A) → first x ≡ true → second x ≡ true) → list_all first xs ≡ true → list_all second xs ≡ true
 all_so first second [] so all = refl
 all_so first second (x ∷ xs) so all =
     let both = and_parts (first x) (list_all first xs) all in
-    join (second x) (list_all second xs) (so x both.0) (all_so first second xs so both.1)
+    and_from (second x) (list_all second xs) (so x both.0) (all_so first second xs so both.1)
 
 -- two tests, another
 pub all_both : {A : Type 0} (first other second : A → Bool) (xs : List A) → ((x : A) → first x ≡ true → other x ≡ true → second x ≡ true) →
@@ -73,7 +69,7 @@ all_both first other second [] so all also = refl
 all_both first other second (x ∷ xs) so all also =
     let both = and_parts (first x) (list_all first xs) all in
     let more = and_parts (other x) (list_all other xs) also in
-    join (second x) (list_all second xs) (so x both.0 more.0) (all_both first other second xs so both.1 more.1)
+    and_from (second x) (list_all second xs) (so x both.0 more.0) (all_both first other second xs so both.1 more.1)
 
 less_in : (n a b : ℕ) → a ≡ b → nat_lt n a ≡ true → nat_lt n b ≡ true
 less_in n a b same less = subst (λ (z : ℕ). nat_lt n z ≡ true) same less
@@ -175,8 +171,8 @@ module _ (p : Program) (q : Proc) (g : Graph) (c : Context) (y : Targets) (has :
       let first = and_parts (is_argument g a) (list_all (is_argument g) args) are in
       let second = and_parts (names_operand p q a.value) (list_all (names_operand p q) (values_of args)) named in
       let rest = arguments_there args first.1 second.1 in (
-        join (has_argument c y a) (list_all (has_argument c y) args) (operand_there a.value first.0 second.0) rest.0,
-        join (is_code_operand c.frame (argument_operand c y a)) (list_all (is_code_operand c.frame) (argument_operands c y args)) (operand_fine a.value first.0 second.0) rest.1,
+        and_from (has_argument c y a) (list_all (has_argument c y) args) (operand_there a.value first.0 second.0) rest.0,
+        and_from (is_code_operand c.frame (argument_operand c y a)) (list_all (is_code_operand c.frame) (argument_operands c y args)) (operand_fine a.value first.0 second.0) rest.1,
       )
 
   can_pass : (args : List Argument) → list_all (is_argument g) args ≡ true → list_all (names_operand p q) (values_of args) ≡ true → nat_le (length args) 64 ≡ true →
@@ -185,17 +181,17 @@ module _ (p : Program) (q : Proc) (g : Graph) (c : Context) (y : Targets) (has :
       let there = arguments_there args are named in
       let vs = argument_operands c y args in
       let count : nat_le (length vs) 64 ≡ true = subst (λ (n : ℕ). nat_le n 64 ≡ true) (sym (length-map args (argument_operand c y))) few in
-      join (list_all (has_argument c y) args) (can_give c y vs) there.0
-      (join (nat_le (length vs) 64) (list_all (is_code_operand c.frame) vs) count there.1)
+      and_from (list_all (has_argument c y) args) (can_give c y vs) there.0
+      (and_from (nat_le (length vs) 64) (list_all (is_code_operand c.frame) vs) count there.1)
 
   can_go : (to : Operand) (args : List Argument) → is_operand g to ≡ true → list_all (is_argument g) args ≡ true →
       list_all (names_operand p q) (to ∷ values_of args) ≡ true → nat_le (length args) 64 ≡ true → can_go_to c y to args ≡ true
   can_go to args is are named few =
       let both = and_parts (names_operand p q to) (list_all (names_operand p q) (values_of args)) named in
       let pass = and_parts (list_all (has_argument c y) args) (can_give c y (argument_operands c y args)) (can_pass args are both.1 few) in
-      join (has_operand c y to && is_code_operand c.frame (code_operand c y to) && list_all (has_argument c y) args) (can_give c y (argument_operands c y args))
-      (join (has_operand c y to && is_code_operand c.frame (code_operand c y to)) (list_all (has_argument c y) args)
-      (join (has_operand c y to) (is_code_operand c.frame (code_operand c y to)) (operand_there to is both.0) (operand_fine to is both.0)) pass.0) pass.1
+      and_from (has_operand c y to && is_code_operand c.frame (code_operand c y to) && list_all (has_argument c y) args) (can_give c y (argument_operands c y args))
+      (and_from (has_operand c y to && is_code_operand c.frame (code_operand c y to)) (list_all (has_argument c y) args)
+      (and_from (has_operand c y to) (is_code_operand c.frame (code_operand c y to)) (operand_there to is both.0) (operand_fine to is both.0)) pass.0) pass.1
 
   -- ---- values
 
@@ -206,8 +202,8 @@ module _ (p : Program) (q : Proc) (g : Graph) (c : Context) (y : Targets) (has :
       let first = and_parts (is_operand g o) (list_all (is_operand g) os) are in
       let second = and_parts (names_operand p q o) (list_all (names_operand p q) os) named in
       let rest = values_there os first.1 second.1 in (
-        join (has_operand c y o) (list_all (has_operand c y) os) (operand_there o first.0 second.0) rest.0,
-        join (is_code_operand c.frame (code_operand c y o)) (list_all (is_code_operand c.frame) (code_operands c y os)) (operand_fine o first.0 second.0) rest.1,
+        and_from (has_operand c y o) (list_all (has_operand c y) os) (operand_there o first.0 second.0) rest.0,
+        and_from (is_code_operand c.frame (code_operand c y o)) (list_all (is_code_operand c.frame) (code_operands c y os)) (operand_fine o first.0 second.0) rest.1,
       )
 
   sends : (vs : List Operand) → list_all (is_operand g) vs ≡ true → list_all (names_operand p q) vs ≡ true → nat_le (length vs) 64 ≡ true → can_send c y vs ≡ true
@@ -215,8 +211,8 @@ module _ (p : Program) (q : Proc) (g : Graph) (c : Context) (y : Targets) (has :
       let there = values_there vs are named in
       let out = code_operands c y vs in
       let count : nat_le (length out) 64 ≡ true = subst (λ (n : ℕ). nat_le n 64 ≡ true) (sym (length-map vs (code_operand c y))) few in
-      join (list_all (has_operand c y) vs) (can_give c y out) there.0
-      (join (nat_le (length out) 64) (list_all (is_code_operand c.frame) out) count there.1)
+      and_from (list_all (has_operand c y) vs) (can_give c y out) there.0
+      (and_from (nat_le (length out) 64) (list_all (is_code_operand c.frame) out) count there.1)
 
   -- ---- what takes values
 
@@ -232,15 +228,15 @@ module _ (p : Program) (q : Proc) (g : Graph) (c : Context) (y : Targets) (has :
   targets_fine [] are = refl
   targets_fine (t ∷ ts) are =
       let both = and_parts (is_target g t) (list_all (is_target g) ts) are in
-      join (is_code_destination c.frame (target_destination c y t)) (list_all (is_code_destination c.frame) (target_destinations c y ts)) (target_fine t both.0)
+      and_from (is_code_destination c.frame (target_destination c y t)) (list_all (is_code_destination c.frame) (target_destinations c y ts)) (target_fine t both.0)
       (targets_fine ts both.1)
 
   lands : (ts : List Target) → list_all (is_target g) ts ≡ true → list_all (names_register p) ts ≡ true → nat_le (length ts) 64 ≡ true → can_land c y ts ≡ true
   lands ts are named few =
       let ds = target_destinations c y ts in
       let count : nat_le (length ds) 64 ≡ true = subst (λ (n : ℕ). nat_le n 64 ≡ true) (sym (length-map ts (target_destination c y))) few in
-      join (list_all (has_target c y) ts) (can_copy c y ds) (all_both (is_target g) (names_register p) (has_target c y) ts target_there are named)
-      (join (nat_le (length ds) 64) (list_all (is_code_destination c.frame) ds) count (targets_fine ts are))
+      and_from (list_all (has_target c y) ts) (can_copy c y ds) (all_both (is_target g) (names_register p) (has_target c y) ts target_there are named)
+      (and_from (nat_le (length ds) 64) (list_all (is_code_destination c.frame) ds) count (targets_fine ts are))
 
   destination_there : (d : Destination) → is_destination g d ≡ true → list_all (names_register p) (targets_of_destination d) ≡ true → has_destination c y d ≡ true
   destination_there (destination.Target t) is named = target_there t is (and_parts (names_register p t) true named).0
@@ -252,15 +248,15 @@ module _ (p : Program) (q : Proc) (g : Graph) (c : Context) (y : Targets) (has :
   formals_fine [] are = refl
   formals_fine (v ∷ vs) are =
       let both = and_parts (is_variable g v) (list_all (is_variable g) vs) are in
-      join (is_place c.frame (place c (local.Variable v))) (list_all (is_place c.frame) (variable_places c vs)) (place_fine (local.Variable v) both.0) (formals_fine vs both.1)
+      and_from (is_place c.frame (place c (local.Variable v))) (list_all (is_place c.frame) (variable_places c vs)) (place_fine (local.Variable v) both.0) (formals_fine vs both.1)
 
   begins : (vs : List Variable) → list_all (is_variable g) vs ≡ true → nat_le (length vs) 64 ≡ true → can_begin c vs ≡ true
   begins vs are few =
       let ls = variable_places c vs in
       let count : nat_le (length ls) 64 ≡ true = subst (λ (n : ℕ). nat_le n 64 ≡ true) (sym (length-map vs (λ (v : Variable). place c (local.Variable v)))) few in
-      let taken : can_take c ls ≡ true = join (nat_le (length ls) 64) (list_all (is_place c.frame) ls) count (formals_fine vs are) in
-      join (list_all (λ v. has_local c (local.Variable v)) vs && can_take c ls) (list_all (is_place c.frame) c.zeroed)
-      (join (list_all (λ v. has_local c (local.Variable v)) vs) (can_take c ls)
+      let taken : can_take c ls ≡ true = and_from (nat_le (length ls) 64) (list_all (is_place c.frame) ls) count (formals_fine vs are) in
+      and_from (list_all (λ v. has_local c (local.Variable v)) vs && can_take c ls) (list_all (is_place c.frame) c.zeroed)
+      (and_from (list_all (λ v. has_local c (local.Variable v)) vs) (can_take c ls)
       (all_so (is_variable g) (λ v. has_local c (local.Variable v)) vs (λ v is. local_there (local.Variable v) is) are) taken)
       has.zeroed
 
@@ -292,8 +288,8 @@ module _ (p : Program) (q : Proc) (g : Graph) (c : Context) (y : Targets) (has :
       let three = and_parts (is_normal g exits.normal && list_all (is_continuation g) exits.returns && list_all (is_continuation g) exits.unwinds) (list_all (is_continuation g) exits.cuts) are in
       let two = and_parts (is_normal g exits.normal && list_all (is_continuation g) exits.returns) (list_all (is_continuation g) exits.unwinds) three.0 in
       let one = and_parts (is_normal g exits.normal) (list_all (is_continuation g) exits.returns) two.0 in
-      join (list_all (has_landing c) exits.returns && nat_le (length exits.returns) 64) (elim exits.normal as (λ _. Bool) [ Some n ↦ has_node c n | None ↦ true ])
-      (join (list_all (has_landing c) exits.returns) (nat_le (length exits.returns) 64)
+      and_from (list_all (has_landing c) exits.returns && nat_le (length exits.returns) 64) (elim exits.normal as (λ _. Bool) [ Some n ↦ has_node c n | None ↦ true ])
+      (and_from (list_all (has_landing c) exits.returns) (nat_le (length exits.returns) 64)
       (all_so (is_continuation g) (has_landing c) exits.returns (λ k is. less_in k.number (length g.continuations) (length c.landings) has.landings is) one.1) few)
       (normal_there exits.normal one.0)
 
@@ -305,7 +301,7 @@ module _ (p : Program) (q : Proc) (g : Graph) (c : Context) (y : Targets) (has :
       let both = and_parts (is_operand g a) (is_operand g b) are in
       let first = and_parts (names_operand p q a) (list_all (names_operand p q) (b ∷ [])) named in
       let second = and_parts (names_operand p q b) true first.1 in
-      join (has_operand c y a) (has_operand c y b) (operand_there a both.0 first.0) (operand_there b both.1 second.0)
+      and_from (has_operand c y a) (has_operand c y b) (operand_there a both.0 first.0) (operand_there b both.1 second.0)
 
   one_there : (a : Operand) → is_operand g a ≡ true → list_all (names_operand p q) (a ∷ []) ≡ true → has_operand c y a ≡ true
   one_there a is named = operand_there a is (and_parts (names_operand p q a) true named).0
@@ -338,42 +334,42 @@ module _ (p : Program) (q : Proc) (g : Graph) (c : Context) (y : Targets) (has :
   pub kind_there : (kind : NodeKind) → IsFine kind → has_kind c y kind ≡ true
   kind_there (Entry formals next) fine =
       let both = next_there (list_all (is_variable g) formals) next fine.valid in
-      join (can_begin c formals) (has_node c next) (begins formals both.0 fine.few) both.1
+      and_from (can_begin c formals) (has_node c next) (begins formals both.0 fine.few) both.1
   kind_there (CopyIn to next) fine =
       let both = next_there (list_all (is_target g) to) next fine.valid in
-      join (can_land c y to) (has_node c next) (lands to both.0 fine.targets fine.few) both.1
+      and_from (can_land c y to) (has_node c next) (lands to both.0 fine.targets fine.few) both.1
   kind_there (Assign to value next) fine =
       let both = next_there (is_destination g to && is_rvalue g value) next fine.valid in
       let parts = and_parts (is_destination g to) (is_rvalue g value) both.0 in
-      join (has_destination c y to && has_rvalue c y value) (has_node c next)
-      (join (has_destination c y to) (has_rvalue c y value) (destination_there to parts.0 fine.targets) (rvalue_there value parts.1 fine.operands fine.registers)) both.1
+      and_from (has_destination c y to && has_rvalue c y value) (has_node c next)
+      (and_from (has_destination c y to) (has_rvalue c y value) (destination_there to parts.0 fine.targets) (rvalue_there value parts.1 fine.operands fine.registers)) both.1
   kind_there (Store width aligned address value next) fine =
       let both = next_there (is_alignment aligned && is_operand g address && is_operand g value) next fine.valid in
       let three = and_parts (is_alignment aligned && is_operand g address) (is_operand g value) both.0 in
       let two = and_parts (is_alignment aligned) (is_operand g address) three.0 in
-      join (has_operand c y address && has_operand c y value) (has_node c next) (two_there address value (join (is_operand g address) (is_operand g value) two.1 three.1) fine.operands) both.1
+      and_from (has_operand c y address && has_operand c y value) (has_node c next) (two_there address value (and_from (is_operand g address) (is_operand g value) two.1 three.1) fine.operands) both.1
   kind_there (Branch test then_ otherwise) fine =
       let both = next_there (is_test g test && leads_to g is_step then_) otherwise fine.valid in
       let parts = and_parts (is_test g test) (leads_to g is_step then_) both.0 in
-      join (has_both c y test && has_node c then_) (has_node c otherwise)
-      (join (has_both c y test) (has_node c then_) (two_there test.left test.right parts.0 fine.operands) (node_there is_step then_ parts.1)) both.1
+      and_from (has_both c y test && has_node c then_) (has_node c otherwise)
+      (and_from (has_both c y test) (has_node c then_) (two_there test.left test.right parts.0 fine.operands) (node_there is_step then_ parts.1)) both.1
   kind_there (Switch value arms otherwise) fine =
       let both = next_there (is_operand g value && list_all (is_arm g) arms) otherwise fine.valid in
       let parts = and_parts (is_operand g value) (list_all (is_arm g) arms) both.0 in
-      join (has_operand c y value && list_all (has_arm c y) arms) (has_node c otherwise)
-      (join (has_operand c y value) (list_all (has_arm c y) arms) (one_there value parts.0 fine.operands) (all_so (is_arm g) (has_arm c y) arms arm_there parts.1)) both.1
+      and_from (has_operand c y value && list_all (has_arm c y) arms) (has_node c otherwise)
+      (and_from (has_operand c y value) (list_all (has_arm c y) arms) (one_there value parts.0 fine.operands) (all_so (is_arm g) (has_arm c y) arms arm_there parts.1)) both.1
   kind_there (Call site callee arguments exits) fine =
       let both = and_parts (is_operand g callee && list_all (is_argument g) arguments) (are_exits g exits) fine.valid in
       let parts = and_parts (is_operand g callee) (list_all (is_argument g) arguments) both.0 in
       let few = and_parts (nat_le (length arguments) 64) (nat_le (length exits.returns) 64) fine.few in
-      join (has_site c site && can_go_to c y callee arguments) (can_come_back c exits)
-      (join (has_site c site) (can_go_to c y callee arguments) (site_there site fine.site.site fine.site.is_site) (can_go callee arguments parts.0 parts.1 fine.operands few.0))
+      and_from (has_site c site && can_go_to c y callee arguments) (can_come_back c exits)
+      (and_from (has_site c site) (can_go_to c y callee arguments) (site_there site fine.site.site fine.site.is_site) (can_go callee arguments parts.0 parts.1 fine.operands few.0))
       (comes_back exits both.1 few.1)
   kind_there (Yield site values exits) fine =
       let both = and_parts (list_all (is_operand g) values) (are_exits g exits) fine.valid in
       let few = and_parts (nat_le (length values) 64) (nat_le (length exits.returns) 64) fine.few in
-      join (has_site c site && can_send c y values) (can_come_back c exits)
-      (join (has_site c site) (can_send c y values) (site_there site fine.site.site fine.site.is_site) (sends values both.0 fine.operands few.0)) (comes_back exits both.1 few.1)
+      and_from (has_site c site && can_send c y values) (can_come_back c exits)
+      (and_from (has_site c site) (can_send c y values) (site_there site fine.site.site fine.site.is_site) (sends values both.0 fine.operands few.0)) (comes_back exits both.1 few.1)
   kind_there (Jump callee arguments) fine =
       let parts = and_parts (is_operand g callee) (list_all (is_argument g) arguments) fine.valid in
       can_go callee arguments parts.0 parts.1 fine.operands fine.few
@@ -387,13 +383,13 @@ module _ (p : Program) (q : Proc) (g : Graph) (c : Context) (y : Targets) (has :
       let least : exit ≤ alternates = grind (arith, nat_tests, parts.0) in
       let most : alternates ≤ 64 = grind (arith, nat_tests, few.0) in
       let small : exit < 512 = omega (arith, least, most) in
-      join (list_all (has_argument c y) results && can_give c y (argument_operands c y results)) (nat_lt exit 512) (can_pass results parts.1 fine.operands few.1)
+      and_from (list_all (has_argument c y) results && can_give c y (argument_operands c y results)) (nat_lt exit 512) (can_pass results parts.1 fine.operands few.1)
       (grind (arith, nat_tests, small))
   kind_there (Host (host.PutByte value) next) fine =
       let both = next_there (is_operand g value) next fine.valid in
-      join (has_operand c y value) (has_node c next) (one_there value both.0 fine.operands) both.1
+      and_from (has_operand c y value) (has_node c next) (one_there value both.0 fine.operands) both.1
   kind_there (Host (host.GetByte to) next) fine =
       let both = next_there (is_target g to) next fine.valid in
-      join (has_target c y to) (has_node c next) (target_there to both.0 (and_parts (names_register p to) true fine.targets).0) both.1
+      and_from (has_target c y to) (has_node c next) (target_there to both.0 (and_parts (names_register p to) true fine.targets).0) both.1
   kind_there (Goto next) fine = node_there is_step next fine.valid
   kind_there Stop fine = refl

@@ -2,7 +2,7 @@
 use Rattle.std.proofs.Common.{◌≡◌, ℕ, zero, suc, ◌+◌, ◌<◌, ◌≤◌, ◌^◌, refl, sym, ◌∙◌, ap, subst, arith, Bool, true, false, List, [], ◌∷◌, length, map, get_or, Option, Some, None, slice_get}
 use Rattle.std.specs.Prelude.{◌&&◌, ◌==◌, Contains, nat_le, nat_lt}
 use Rattle.std.specs.List.{All, list_all}
-use Rattle.std.proofs.lemmas.Bool.{and_parts, eqb-true}
+use Rattle.std.proofs.lemmas.Bool.{and_parts, eqb-true, and_from}
 use Rattle.std.proofs.lemmas.Bool.Decides.{nat_tests}
 use Rattle.std.proofs.lemmas.List.{get_or_past, length-map}
 use Rattle.std.proofs.lemmas.Option.{slice_get-get_or, slice_get_within}
@@ -44,7 +44,7 @@ use Rattle.cmm_emit.specs.declared.context.Context.{Context}
 use Rattle.cmm_emit.specs.declared.context.Targets.{Targets}
 use Rattle.cmm_emit.proofs.Fitting.{IsRow, all_below, pairs_inside, places_are, row_parts, stack_counted, stack_inside}
 use Rattle.cmm_emit.proofs.Numbering.{length-labels_from}
-use Rattle.cmm_emit.proofs.Named.{Has, join, kind_there, all_at}
+use Rattle.cmm_emit.proofs.Named.{Has, kind_there, all_at}
 use Rattle.cmm_emit.proofs.WaitingNodes.{waits_apart}
 use Rattle.cmm_emit.specs.Contexts.{IsMadeFor, place_in}
 use Rattle.cmm_emit.specs.LaidProcedures.{CanBeLaid}
@@ -74,7 +74,7 @@ each_listed : (test : Location → Bool) (place : ℕ → Location) (count : ℕ
     ((n : ℕ) → Contains ns n → n < count) → list_all test (map place ns) ≡ true
 each_listed test place count [] so below = refl
 each_listed test place count (n ∷ ns) so below =
-    join (test (place n)) (list_all test (map place ns)) (so n (below n (0, (omega arith), refl)))
+    and_from (test (place n)) (list_all test (map place ns)) (so n (below n (0, (omega arith), refl)))
     (each_listed test place count ns so (λ m there. below m (suc there.0, (let h = there.1 in omega (arith, h)), there.2)))
 
 lt_test : (a b : ℕ) → a < b → nat_lt a b ≡ true
@@ -174,7 +174,7 @@ module _ (p : Program) (q : Proc) (g : Graph) (k : ProcedurePlaces) (first : ℕ
         list_all (λ node. has_kind c y node.kind) nodes ≡ true
     all_fine [] each = refl
     all_fine (node ∷ nodes) each =
-        join (has_kind c y node.kind) (list_all (λ node. has_kind c y node.kind) nodes) (each 0 node refl) (all_fine nodes (λ n other is. each (suc n) other is))
+        and_from (has_kind c y node.kind) (list_all (λ node. has_kind c y node.kind) nodes) (each 0 node refl) (all_fine nodes (λ n other is. each (suc n) other is))
 
     lands_inside : All (λ n. n.number < length g.nodes) g.continuations
     lands_inside i d h =

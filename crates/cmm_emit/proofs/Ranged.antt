@@ -2,7 +2,7 @@
 use Rattle.std.proofs.Common.{◌≡◌, ◌⊎◌, inl, inr, ℕ, zero, suc, ◌+◌, ◌*◌, ◌%◌, ◌<◌, ◌≤◌, ◌^◌, refl, sym, ◌∙◌, ap, subst, arith, Bool, true, false, List, [], ◌∷◌, ◌++◌, length, length-append, length-drop, map, take, drop, get_or, Some, slice_get}
 use Rattle.std.specs.Prelude.{◌&&◌, ◌==◌, nat_le, nat_lt, sum_by}
 use Rattle.std.specs.List.{All, AllZip, list_all}
-use Rattle.std.proofs.lemmas.Bool.{and_parts, eq-eqb, eqb-true}
+use Rattle.std.proofs.lemmas.Bool.{and_parts, eq-eqb, eqb-true, and_from}
 use Rattle.std.proofs.lemmas.Bool.Decides.{nat_tests}
 use Rattle.std.proofs.lemmas.List.{drop-drop, drop_all, get_or_past, length-map}
 use Rattle.std.proofs.lemmas.List.Elements.{All-cons, All-head, All-map, All-nil, All-tail, All-weaker}
@@ -28,7 +28,6 @@ use Rattle.cmm_unit_code.specs.declared.unit_code.UnitCode.{UnitCode}
 use Rattle.cmm_allocate.specs.declared.procedure.ProcedurePlaces.{ProcedurePlaces}
 use Rattle.cmm_emit.proofs.Addresses.{place_fine}
 use Rattle.cmm_emit.proofs.Inside.{IsInside, IsRanged, unit_ranged}
-use Rattle.cmm_emit.proofs.Named.{join}
 use Rattle.cmm_emit.proofs.JoinedSites.{distinct_both, in_one, is_moved}
 use Rattle.cmm_emit.proofs.Standing.{value_in}
 use Rattle.cmm_emit.proofs.UnitSites.{HasSitesIn, IsSited, IsSiteIn, unit_sited}
@@ -47,7 +46,7 @@ ascend_append : (xs ys : List ℕ) (before end : ℕ) → before < end → ascen
 ascend_append [] ys before end less ascends below later = later before less
 ascend_append (x ∷ xs) ys before end less ascends below later =
     let parts = and_parts (nat_lt before x) (ascend_above x xs) ascends in
-    join (nat_lt before x) (ascend_above x (xs ++ ys)) parts.0
+    and_from (nat_lt before x) (ascend_above x (xs ++ ys)) parts.0
     (ascend_append xs ys x end (All-head (λ y. y < end) x xs below) parts.1 (All-tail (λ y. y < end) x xs below) later)
 
 -- a list side by side with two lists, of which the first has n
@@ -67,7 +66,7 @@ zip_map R S f so (x ∷ xs) [] all = elim all [ ]
 zip_map R S f so (x ∷ xs) (y ∷ ys) all = (so x y all.0, zip_map R S f so xs ys all.1)
 
 list_all_both : {A : Type 0} (test : A → Bool) (xs ys : List A) → list_all test xs ≡ true → list_all test ys ≡ true → list_all test (xs ++ ys) ≡ true
-list_all_both test xs ys one two = list_all-append test xs ys ∙ join (list_all test xs) (list_all test ys) one two
+list_all_both test xs ys one two = list_all-append test xs ys ∙ and_from (list_all test xs) (list_all test ys) one two
 
 -- ---- addresses
 
@@ -76,7 +75,7 @@ in_code : (n a : ℕ) → code_base ≤ a → a < code_base + n → a % 4 ≡ 0 
 in_code n a low high aligned =
     let first : nat_le code_base a ≡ true = grind (arith, nat_tests, low) in
     let second : nat_lt a (code_base + n) ≡ true = grind (arith, nat_tests, high) in
-    join (nat_le code_base a && nat_lt a (code_base + n)) (a % 4 == 0) (join (nat_le code_base a) (nat_lt a (code_base + n)) first second) (eq-eqb (a % 4) 0 aligned)
+    and_from (nat_le code_base a && nat_lt a (code_base + n)) (a % 4 == 0) (and_from (nat_le code_base a) (nat_lt a (code_base + n)) first second) (eq-eqb (a % 4) 0 aligned)
 
 -- and what that says
 record IsAddress (n a : ℕ) : Type 0 where
@@ -402,7 +401,7 @@ module _ (p : Program) (graphs : List Graph) (found : List ProcedurePlaces) (ran
           let aligned : n % 4 ≡ 0 = omega (arith, code_counted, together, four, more) in
           let first : nat_le 4 n ≡ true = grind (arith, nat_tests, least) in
           let second : nat_le n 0x3fff0000 ≡ true = grind (arith, nat_tests, most) in
-          join (nat_le 4 n && nat_le n 0x3fff0000) (n % 4 == 0) (join (nat_le 4 n) (nat_le n 0x3fff0000) first second) (eq-eqb (n % 4) 0 aligned)
+          and_from (nat_le 4 n && nat_le n 0x3fff0000) (n % 4 == 0) (and_from (nat_le 4 n) (nat_le n 0x3fff0000) first second) (eq-eqb (n % 4) 0 aligned)
 
       pub is_text : IsText p t
       is_text = record {

@@ -1,4 +1,6 @@
 -- The code of an assignment as the paths of liveness see it: all is read before the first place is written.
+use Rattle.cmm_program.proofs.Shared.{or_left_comm}
+use Rattle.std.proofs.Math.Bool.{or-false}
 use Rattle.std.proofs.Common.{◌≡◌, ℕ, suc, ◌||◌, false, IsFalse, List, [], ◌∷◌, ◌++◌, append-nil, flat_map, length, refl, ap, sym, ◌∙◌, arith}
 use Rattle.cmm_program.specs.declared.expression.Expression.{Expression}
 use Rattle.cmm_program.specs.declared.procedure.Proc.{Proc}
@@ -18,7 +20,7 @@ use Rattle.cmm_flow.specs.Operands.{operand_of, temporary}
 use Rattle.cmm_flow.specs.Statements.{AddressesCode, AssignCode, SeveralCode, StoresCode}
 use Rattle.cmm_flow.proofs.LivenessExits.{target_writes}
 use Rattle.cmm_flow.proofs.LivenessExpressions.{into_temporary, operand_piece, some_values, value_piece}
-use Rattle.cmm_flow.proofs.LivenessMembers.{is_among-append, or_nothing, or_turned}
+use Rattle.cmm_flow.proofs.LivenessMembers.{is_among-append}
 use Rattle.cmm_flow.proofs.LivenessPieces.{Piece, any_local, any_read, left_as, one_node, quiet_node, read_as, stay, then_piece, then_writes, fewer}
 use Rattle.cmm_flow.proofs.LivenessStatements.{Code, Stands, writing_way}
 
@@ -69,7 +71,7 @@ module _ (q : Proc) (g : Graph) (label_node : ℕ → NodeId) (v : ℕ) where
       writing_way q g label_node v n k (is_among v (flat_map read_by_lvalue to ++ read_by_all (e ∷ es))) (is_among v (flat_map written_to_lvalue to))
       (flat_map written_to_lvalue to) rest
       (read_as g v (is_among v (flat_map read_by_lvalue to ++ read_by_all (e ∷ es)))
-      (ap (λ b. reads || b) (or_nothing values) ∙ sym (is_among-append v (flat_map read_by_lvalue to) (read_by_all (e ∷ es)))) piece) refl behind
+      (ap (λ b. reads || b) (or-false values) ∙ sym (is_among-append v (flat_map read_by_lvalue to) (read_by_all (e ∷ es)))) piece) refl behind
 
   pub assign_stands : (to : List Lvalue) (values : List Expression) (n k : NodeId) (rest : List Statement) → length to ≡ length values →
       AssignCode g.nodes to values n k → Code q g label_node v rest k → Assigned n to values rest
@@ -88,10 +90,10 @@ module _ (q : Proc) (g : Graph) (label_node : ℕ → NodeId) (v : ℕ) where
       let reads = is_among v (read_by address) in
       let value = is_among v (read_by e) in
       let store = quiet_node g v code.1 k (access_tokens width aligned) (kind.Store width aligned (operand_of 0 address) (operand_of 1 e) k) code.4 refl refl in
-      let second = operand_piece g v e 1 1 code.0 code.1 (x || false) (λ m. k ≡ m) code.3 (read_as g v (y || (x || false)) (or_turned x y false) store) in
-      let first = operand_piece g v address 0 1 n code.0 (value || false) (λ m. k ≡ m) code.2 (read_as g v (x || (value || false)) (or_turned value x false) second) in
+      let second = operand_piece g v e 1 1 code.0 code.1 (x || false) (λ m. k ≡ m) code.3 (read_as g v (y || (x || false)) (or_left_comm x y false) store) in
+      let first = operand_piece g v address 0 1 n code.0 (value || false) (λ m. k ≡ m) code.2 (read_as g v (x || (value || false)) (or_left_comm value x false) second) in
       let all = read_as g v (is_among v ((read_by address ++ []) ++ (read_by e ++ [])))
-      (ap (λ b. reads || b) (or_nothing value) ∙ sym (is_among-append v (read_by address) (read_by e))
+      (ap (λ b. reads || b) (or-false value) ∙ sym (is_among-append v (read_by address) (read_by e))
       ∙ ap (is_among v) (ap (λ ns. ns ++ read_by e) (sym (append-nil (read_by address))) ∙ ap (λ ns. (read_by address ++ []) ++ ns) (sym (append-nil (read_by e))))) first in
       writing_way q g label_node v n k (is_among v ((read_by address ++ []) ++ (read_by e ++ []))) false [] rest
       (left_as g v (λ m. IsFalse false × (k ≡ m)) (λ m is. (refl, is)) (λ m is. is.1) all) refl behind

@@ -1,4 +1,6 @@
 -- The code of a checked operator as the paths of liveness see it: it goes on behind the statement, or waits at its site.
+use Rattle.cmm_program.proofs.Shared.{or_left_comm}
+use Rattle.std.proofs.Math.Bool.{or-false}
 use Rattle.std.proofs.Common.{◌≡◌, ◌⊎◌, inl, inr, ℕ, ◌+◌, ◌&&◌, ◌||◌, ◌==◌, Bool, true, false, IsFalse, Option, Some, None, List, [], ◌∷◌, ◌++◌, append-nil, flat_map, length, slice_get, refl, ap, sym, ◌∙◌, subst, arith}
 use Rattle.std.proofs.lemmas.Bool.{and_parts, eqb-true}
 use Rattle.cmm_words.specs.Words.{is_division}
@@ -33,7 +35,7 @@ use Rattle.cmm_flow.specs.Liveness.{HasLandingsOf}
 use Rattle.cmm_flow.specs.Statements.{CheckedCode, ZeroCode, first_result, normal_tokens, operator_nodes, remaining}
 use Rattle.cmm_flow.proofs.LivenessExits.{AreExits, exits_by, exits_to, target_writes}
 use Rattle.cmm_flow.proofs.LivenessExpressions.{branch_piece, operand_piece}
-use Rattle.cmm_flow.proofs.LivenessMembers.{Among, is_among-append, or_nothing, or_turned}
+use Rattle.cmm_flow.proofs.LivenessMembers.{Among, is_among-append}
 use Rattle.cmm_flow.proofs.LivenessPieces.{Piece, any_local, any_read, fewer, left_as, node_piece, one_node, read_as, then_either}
 use Rattle.cmm_flow.proofs.LivenessTransfers.{IsCode, StandsAt, are_exits, has_site}
 use Rattle.cmm_flow.proofs.LivenessStatements.{ByWay, ToNode, settled, stands_by}
@@ -86,9 +88,9 @@ module _ (p : Program) (q : Proc) (g : Graph) (range : IsProcInRange p q) (graph
       (fewer g v 1 0 (omega arith) waits) (fewer g v 1 0 (omega arith) last) in
       let second = operand_piece g v right 1 1 m j (a || false) (Left ends written k) to_right (read_as g v (b || (a || false)) (checked_reads a b) test) in
       let first = operand_piece g v left 0 1 n m (reads_right || false) (Left ends written k) to_left
-      (read_as g v (a || (reads_right || false)) (or_turned reads_right a false) second) in
+      (read_as g v (a || (reads_right || false)) (or_left_comm reads_right a false) second) in
       read_as g v (is_among v (read_by left ++ read_by right))
-      (ap (λ c. reads_left || c) (or_nothing reads_right) ∙ sym (is_among-append v (read_by left) (read_by right))) first
+      (ap (λ c. reads_left || c) (or-false reads_right) ∙ sym (is_among-append v (read_by left) (read_by right))) first
 
   -- where that leads
   checked_leads : (n k : NodeId) (read written : Bool) (ends : Exits) (site : Site) (rest : List Statement) → AreExits p q g graph flow v ends site rest →

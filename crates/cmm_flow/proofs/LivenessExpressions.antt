@@ -1,5 +1,7 @@
 -- The code of expressions and conditions as the paths of liveness see it: it reads the variables that these read, and writes
 -- none of the procedure's but its destination.
+use Rattle.cmm_program.proofs.Shared.{or_left_comm}
+use Rattle.std.proofs.Math.Bool.{or-false, or_assoc}
 use Rattle.std.proofs.Common.{◌≡◌, ◌⊎◌, inl, inr, ℕ, suc, ◌||◌, Bool, true, false, IsFalse, List, [], ◌∷◌, ◌++◌, refl, ap, sym, ◌∙◌, subst, arith}
 use Rattle.cmm_program.specs.declared.expression.Expression.{Expression, Row_of-Expression, more_of-Expression}
 use Rattle.cmm_program.specs.declared.expression.Expression.TheVariants.{Known, Variable, Register, Stackdata, Continuation, Load', Unary', Binary', SignExtend', ZeroExtend', LowBits'}
@@ -19,7 +21,7 @@ use Rattle.cmm_graph.specs.Paths.{operands_of_rvalue, values_of, written_to_dest
 use Rattle.cmm_graph.specs.Covering.{least_for}
 use Rattle.cmm_flow.specs.Code.{Assigns, IsNode, OperandCode, OperandsCode, PartCode, SameCode, TestCode, TestPart, ValueCode, ValuesCode, to_temporary}
 use Rattle.cmm_flow.specs.Operands.{arguments_of, is_plain, operand_in, operand_of, operands_of}
-use Rattle.cmm_flow.proofs.LivenessMembers.{is_among-append, or_among, or_nothing, or_turned}
+use Rattle.cmm_flow.proofs.LivenessMembers.{is_among-append}
 use Rattle.cmm_flow.proofs.LivenessPieces.{Piece, any_local, any_operand, any_read, fewer, left_as, node_piece, one_node, read_as, stay, then_either, then_piece}
 use Rattle.cmm_flow.proofs.Operands.{in_temporary}
 
@@ -75,14 +77,14 @@ module _ (g : Graph) (v : ℕ) where
   last_part a base to value m k node is = read_as g v (any_read v (operand_in base a) || false) (ap (any_operand v) is) (assigns_piece to value m k node)
 
   pub alone : {s : ℕ} {n : NodeId} {X : NodeId → Type 0} (b : Bool) → Piece g v s n (b || false) X → Piece g v s n b X
-  alone b piece = read_as g v b (or_nothing b) piece
+  alone b piece = read_as g v b (or-false b) piece
 
   mutual
     pub value_piece : (e : Expression) (base : ℕ) (to : Destination) (n k : NodeId) → ValueCode g.nodes e base to n k →
         Piece g v 1 n (is_among v (read_by e)) (Written to k)
     value_piece (Known value) base to n k node = assigns_piece to (rvalue.Copy (operand_of base (Known value))) n k node
     value_piece (Variable number width) base to n k node =
-        read_as g v (is_among v (number ∷ [])) (or_nothing (is_among v (number ∷ []))) (assigns_piece to (rvalue.Copy (operand_of base (Variable number width))) n k node)
+        read_as g v (is_among v (number ∷ [])) (or-false (is_among v (number ∷ []))) (assigns_piece to (rvalue.Copy (operand_of base (Variable number width))) n k node)
     value_piece (Register number width) base to n k node = assigns_piece to (rvalue.Register record { number = number }) n k node
     value_piece (Stackdata number) base to n k node = assigns_piece to (rvalue.Copy (operand_of base (Stackdata number))) n k node
     value_piece (Continuation number) base to n k node = assigns_piece to (rvalue.Copy (operand_of base (Continuation number))) n k node
@@ -95,12 +97,12 @@ module _ (g : Graph) (v : ℕ) where
         let y = any_read v (operand_in (suc base) b) in
         let reads_a = is_among v (fold_operand read_step a) in
         let reads_b = is_among v (fold_operand read_step b) in
-        let last = read_as g v (y || (x || false)) (or_turned x y false)
+        let last = read_as g v (y || (x || false)) (or_left_comm x y false)
         (assigns_piece to (rvalue.Binary op width (operand_in base a) (operand_in (suc base) b)) j k code.4) in
-        let second = read_as g v (x || (reads_b || false)) (or_turned reads_b x false) (part_piece b (suc base) code.0 j (x || false) to k code.3 last) in
+        let second = read_as g v (x || (reads_b || false)) (or_left_comm reads_b x false) (part_piece b (suc base) code.0 j (x || false) to k code.3 last) in
         let first = part_piece a base n code.0 (reads_b || false) to k code.2 second in
         read_as g v (is_among v (fold_operand read_step a ++ fold_operand read_step b))
-        (ap (λ c. reads_a || c) (or_nothing reads_b) ∙ sym (is_among-append v (fold_operand read_step a) (fold_operand read_step b))) first
+        (ap (λ c. reads_a || c) (or-false reads_b) ∙ sym (is_among-append v (fold_operand read_step a) (fold_operand read_step b))) first
     value_piece (SignExtend' from to' _ a) base to n k code =
         alone (is_among v (fold_operand read_step a)) (part_piece a base n code.0 false to k code.1 (last_part a base to (rvalue.SignExtend from to' (operand_in base a)) code.0 k code.2 refl))
     value_piece (ZeroExtend' from to' _ a) base to n k code = same_piece a base to n k code
@@ -129,10 +131,10 @@ module _ (g : Graph) (v : ℕ) where
       let y = any_operand v (operands_of (suc base) es) in
       let reads = is_among v (read_by e) in
       let others = is_among v (read_by_all es) in
-      let later = operands_piece es (suc base) s code.0 k (x || b) X code.2 (read_as g v (y || (x || b)) (or_among x y b ∙ or_turned x y b) piece) in
-      let first = operand_piece e base s n code.0 (others || b) X code.1 (read_as g v (x || (others || b)) (or_turned others x b) later) in
+      let later = operands_piece es (suc base) s code.0 k (x || b) X code.2 (read_as g v (y || (x || b)) (or_assoc x y b ∙ or_left_comm x y b) piece) in
+      let first = operand_piece e base s n code.0 (others || b) X code.1 (read_as g v (x || (others || b)) (or_left_comm others x b) later) in
       read_as g v (is_among v (read_by_all (e ∷ es)) || b)
-      (sym (or_among reads others b) ∙ ap (λ c. c || b) (sym (is_among-append v (read_by e) (read_by_all es)))) first
+      (sym (or_assoc reads others b) ∙ ap (λ c. c || b) (sym (is_among-append v (read_by e) (read_by_all es)))) first
 
   -- their values into temporaries
   pub values_piece : (es : List Expression) (base : ℕ) (n k : NodeId) → ValuesCode g.nodes es base n k →
@@ -189,17 +191,17 @@ module _ (g : Graph) (v : ℕ) where
         let y = any_read v (operand_of 1 b) in
         let reads_a = is_among v (read_by a) in
         let reads_b = is_among v (read_by b) in
-        let last = read_as g v (y || (x || false)) (or_turned x y false) (branch_piece code.1 _ held failed code.4) in
-        let second = read_as g v (x || (reads_b || false)) (or_turned reads_b x false) (operand_piece b 1 1 code.0 code.1 (x || false) (EitherNode held failed) code.3 last) in
+        let last = read_as g v (y || (x || false)) (or_left_comm x y false) (branch_piece code.1 _ held failed code.4) in
+        let second = read_as g v (x || (reads_b || false)) (or_left_comm reads_b x false) (operand_piece b 1 1 code.0 code.1 (x || false) (EitherNode held failed) code.3 last) in
         let first = operand_piece a 0 1 n code.0 (reads_b || false) (EitherNode held failed) code.2 second in
-        read_as g v (is_among v (read_by a ++ read_by b)) (ap (λ c. reads_a || c) (or_nothing reads_b) ∙ sym (is_among-append v (read_by a) (read_by b))) first
+        read_as g v (is_among v (read_by a ++ read_by b)) (ap (λ c. reads_a || c) (or-false reads_b) ∙ sym (is_among-append v (read_by a) (read_by b))) first
     test_piece (Not' _ a) n held failed code =
         left_as g v (EitherNode held failed) (λ m is. turned failed held m is) (λ m is. turned held failed m is) (part_test a n failed held code)
     test_piece (Both' _ a _ b) n held failed code =
         let reads_a = is_among v (fold_part test_read_step a) in
         let reads_b = is_among v (fold_part test_read_step b) in
         read_as g v (is_among v (fold_part test_read_step a ++ fold_part test_read_step b))
-        (ap (λ c. reads_a || c) (or_nothing reads_b) ∙ sym (is_among-append v (fold_part test_read_step a) (fold_part test_read_step b)))
+        (ap (λ c. reads_a || c) (or-false reads_b) ∙ sym (is_among-append v (fold_part test_read_step a) (fold_part test_read_step b)))
         (left_as g v (EitherNode held failed) (second_or held failed) (λ m is. inl is)
         (then_either g v (part_test a n code.0 failed code.1) (fewer g v 1 0 (omega arith) (part_test b code.0 held failed code.2)) (stay g v failed failed refl)))
     test_piece (Either' _ a _ b) n held failed code =

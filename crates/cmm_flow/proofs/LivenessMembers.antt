@@ -1,4 +1,5 @@
 -- Membership in a list, case by case, and as a test of numbers.
+use Rattle.std.proofs.Math.Bool.{or_assoc}
 use Rattle.std.proofs.Common.{◌≡◌, ◌⊎◌, inl, inr, ℕ, zero, suc, ◌||◌, ◌==◌, Bool, true, false, Contains, List, [], ◌∷◌, ◌++◌, flat_map, map, refl, ap, sym, ◌∙◌, subst, arith}
 use Rattle.std.proofs.lemmas.Bool.{and_parts}
 use Rattle.std.specs.List.{list_all}
@@ -58,30 +59,9 @@ among_more f xs ys y more among =
 
 -- ---- tests
 
-pub or_nothing : (a : Bool) → (a || false) ≡ a
-or_nothing true = refl
-or_nothing false = refl
-
-pub or_among : (a b c : Bool) → ((a || b) || c) ≡ (a || (b || c))
-or_among true b c = refl
-or_among false b c = refl
-
--- the first two in the other order
-pub or_turned : (a b c : Bool) → (a || (b || c)) ≡ (b || (a || c))
-or_turned true true c = refl
-or_turned true false c = refl
-or_turned false true c = refl
-or_turned false false c = refl
-
-pub or_swapped : (a b : Bool) → (a || b) ≡ (b || a)
-or_swapped true true = refl
-or_swapped true false = refl
-or_swapped false true = refl
-or_swapped false false = refl
-
 pub is_among-append : (v : ℕ) (xs ys : List ℕ) → is_among v (xs ++ ys) ≡ (is_among v xs || is_among v ys)
 is_among-append v [] ys = refl
-is_among-append v (x ∷ xs) ys = ap (λ b. (v == x) || b) (is_among-append v xs ys) ∙ sym (or_among (v == x) (is_among v xs) (is_among v ys))
+is_among-append v (x ∷ xs) ys = ap (λ b. (v == x) || b) (is_among-append v xs ys) ∙ sym (or_assoc (v == x) (is_among v xs) (is_among v ys))
 
 -- ---- of lists joined, and a test of each element
 

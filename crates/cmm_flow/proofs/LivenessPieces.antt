@@ -1,5 +1,6 @@
 -- Pieces of a graph as the paths of liveness see them: whether a variable is read in a piece, and where a path on which the
 -- piece does not write it leaves the piece.
+use Rattle.std.proofs.Math.Bool.{or_assoc}
 use Rattle.std.proofs.Common.{◌≡◌, ◌⊎◌, inl, inr, ℕ, suc, ◌+◌, ◌≤◌, ◌||◌, ◌==◌, Bool, true, false, IsTrue, IsFalse, Contains, List, [], ◌∷◌, ◌++◌, flat_map, refl, ap, sym, ◌∙◌, subst, true≢false, arith}
 use Rattle.std.proofs.lemmas.Bool.{eq-eqb, eqb-true, false_from_ne_true, or_cases, or_from, or_left, or_parts, or_right}
 use Rattle.cmm_graph.specs.declared.graph.Graph.{Graph}
@@ -12,7 +13,7 @@ use Rattle.cmm_graph.specs.declared.operand.Operand.{Operand}
 use Rattle.cmm_graph.specs.Liveness.{IsLiveBefore, Here, Onward}
 use Rattle.cmm_graph.specs.Paths.{operands, read_by, reads, successors, writes}
 use Rattle.cmm_flow.specs.Code.{IsNode}
-use Rattle.cmm_flow.proofs.LivenessMembers.{Among, among_of, contains_of, or_among}
+use Rattle.cmm_flow.proofs.LivenessMembers.{Among, among_of, contains_of}
 
 -- ---- the variable among locals, as a test
 
@@ -35,7 +36,7 @@ any_operand v (o ∷ os) = any_read v o || any_operand v os
 pub any_local-append : (v : ℕ) (ls more : List Local) → any_local v (ls ++ more) ≡ (any_local v ls || any_local v more)
 any_local-append v [] more = refl
 any_local-append v (l ∷ ls) more =
-    ap (λ b. is_local v l || b) (any_local-append v ls more) ∙ sym (or_among (is_local v l) (any_local v ls) (any_local v more))
+    ap (λ b. is_local v l || b) (any_local-append v ls more) ∙ sym (or_assoc (is_local v l) (any_local v ls) (any_local v more))
 
 operands_read : (v : ℕ) (os : List Operand) → any_local v (flat_map read_by os) ≡ any_operand v os
 operands_read v [] = refl

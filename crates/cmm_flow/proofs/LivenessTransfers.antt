@@ -1,4 +1,5 @@
 -- The code of a statement that leaves its procedure or waits at a site, as the paths of liveness see it.
+use Rattle.std.proofs.Math.Bool.{or-false, or_comm}
 use Rattle.std.proofs.Common.{◌≡◌, ℕ, ◌||◌, Bool, false, IsTrue, IsFalse, Some, None, List, [], ◌∷◌, ◌++◌, length, map, slice_get, refl, ap, sym, ◌∙◌, subst}
 use Rattle.std.specs.List.{list_all}
 use Rattle.cmm_program.proofs.Shared.{all_get, list_all_get}
@@ -23,7 +24,7 @@ use Rattle.cmm_flow.specs.Liveness.{HasLandingsOf}
 use Rattle.cmm_flow.specs.Statements.{CallCode, CutCode, JumpCode, ExitsCode, ReturnCode, YieldCode}
 use Rattle.cmm_flow.proofs.LivenessExits.{AreExits, by_landing, exits_by, exits_to, to_landing}
 use Rattle.cmm_flow.proofs.LivenessExpressions.{alone, operand_piece, operands_piece, values_passed}
-use Rattle.cmm_flow.proofs.LivenessMembers.{Among, is_among-append, or_nothing, or_swapped}
+use Rattle.cmm_flow.proofs.LivenessMembers.{Among, is_among-append}
 use Rattle.cmm_flow.proofs.LivenessPieces.{Piece, any_operand, any_read, last_node, left_as, node_piece, read_as}
 use Rattle.cmm_flow.proofs.LivenessStatements.{Code, Stands, no_way, stands_by}
 
@@ -75,10 +76,10 @@ module _ (p : Program) (q : Proc) (g : Graph) (range : IsProcInRange p q) (graph
       let x = any_read v (operand_of 0 first) in
       let y = any_operand v (operands_of 1 others) in
       let reads = is_among v (read_by_all others) in
-      let named = ap (λ os. x || any_operand v os) (values_passed 1 others) ∙ or_swapped x y in
+      let named = ap (λ os. x || any_operand v os) (values_passed 1 others) ∙ or_comm x y in
       let second = operands_piece g v others 1 1 m j x X more (read_as g v (y || x) named piece) in
       read_as g v (is_among v (read_by first ++ read_by_all others)) (sym (is_among-append v (read_by first) (read_by_all others)))
-      (operand_piece g v first 0 1 n m reads X code (read_as g v (x || reads) (or_swapped reads x) second))
+      (operand_piece g v first 0 1 n m reads X code (read_as g v (x || reads) (or_comm reads x) second))
 
   -- a node that waits leads to its exits
   to_exits : (n : NodeId) (r : Bool) (ends : Exits) → Piece g v 1 n r (λ m. IsFalse false × Exit ends m) → Piece g v 1 n r (Exit ends)
@@ -100,7 +101,7 @@ module _ (p : Program) (q : Proc) (g : Graph) (range : IsProcInRange p q) (graph
       let asked = any_operand v (operands_of 0 values) in
       waits n site code.1 k rest (is_among v (read_by_all values)) (has_site code.0 _ wait code.3) code.4 behind
       (alone g v (is_among v (read_by_all values))
-      (operands_piece g v values 0 1 n code.0 false (Exit code.1) code.2 (read_as g v (asked || false) (sym (or_nothing asked)) piece)))
+      (operands_piece g v values 0 1 n code.0 false (Exit code.1) code.2 (read_as g v (asked || false) (sym (or-false asked)) piece)))
 
   -- ---- without a site
 
@@ -115,7 +116,7 @@ module _ (p : Program) (q : Proc) (g : Graph) (range : IsProcInRange p q) (graph
       StandsAt n (is_among v (read_by_all values)) []
   return_stands tokens exit alternates values n code =
       let asked = any_operand v (operands_of 0 values) in
-      let named = ap (any_operand v) (values_passed 0 values) ∙ sym (or_nothing asked) in
+      let named = ap (any_operand v) (values_passed 0 values) ∙ sym (or-false asked) in
       no_way q g flow.label_node v n (is_among v (read_by_all values))
       (alone g v (is_among v (read_by_all values))
       (operands_piece g v values 0 1 n code.0 false (λ m. ⊥) code.1

@@ -1,4 +1,5 @@
 -- Each call site of a procedure has a node that waits there, and whose normal exit leads behind the site's statement.
+use Rattle.std.proofs.Math.Bool.{or-false}
 use Rattle.std.proofs.Common.{◌≡◌, ◌⊎◌, inl, inr, ap₂, ℕ, zero, suc, ◌+◌, ◌<◌, ◌≤◌, ◌||◌, ◌==◌, Bool, true, false, cond, IsTrue, is_some, filter, flat_map, Option, Some, None, List, [], ◌∷◌, ◌++◌, append-nil, append_assoc, length, slice_get, refl, ap, sym, ◌∙◌, subst, arith}
 use Rattle.std.proofs.lemmas.Bool.{and_parts, cases_eq, eq-eqb, eqb-true}
 use Rattle.std.proofs.lemmas.List.Concat.{flat_map-append}
@@ -33,7 +34,7 @@ use Rattle.cmm_flow.specs.Code.{IsNode}
 use Rattle.cmm_flow.specs.Statements.{ArmsCode, DefaultCode, FormCode, ListCode, ExitsCode, RowCode, ZeroCode, operator_nodes}
 use Rattle.cmm_flow.proofs.Counting.{row_statements}
 use Rattle.cmm_flow.proofs.LivenessArms.{few_defaults}
-use Rattle.cmm_flow.proofs.LivenessMembers.{is_among-append, or_nothing}
+use Rattle.cmm_flow.proofs.LivenessMembers.{is_among-append}
 use Rattle.cmm_flow.proofs.Rows.{row_leads}
 
 -- ---- a body has a site where its number stands among those of its statements
@@ -58,9 +59,9 @@ two_numbers site xs ys =
     sym (is_among-append site (numbers xs) (numbers ys)) ∙ ap (is_among site) (sym (flat_map-append (λ (s : Statement). site_number s.form) xs ys))
 
 is_its_mark : (site : ℕ) (form : Form) → is_mark (AtSite site) form ≡ is_among site (site_number form)
-is_its_mark site (Call n callee actuals) = sym (or_nothing (site == n))
-is_its_mark site (Yield n values) = sym (or_nothing (site == n))
-is_its_mark site (Checked n op width left right) = sym (or_nothing (site == n))
+is_its_mark site (Call n callee actuals) = sym (or-false (site == n))
+is_its_mark site (Yield n values) = sym (or-false (site == n))
+is_its_mark site (Checked n op width left right) = sym (or-false (site == n))
 is_its_mark site form = refl
 
 module _ (site : ℕ) where

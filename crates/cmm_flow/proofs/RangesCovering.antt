@@ -1,4 +1,5 @@
 -- A procedure in range has tokens for each of its parts, so what `flow` answers for a program in range are its flows.
+use Rattle.std.proofs.Math.Bool.{or-false}
 use Rattle.std.proofs.Common.{◌≡◌, ℕ, ◌+◌, ◌<◌, ◌≤◌, ◌==◌, ◌&&◌, ◌||◌, nat_le, nat_lt, Bool, true, false, IsTrue, filter, flat_map, Option, Some, None, List, [], ◌∷◌, ◌++◌, get_or, length, slice_get, take, refl, ap, sym, ◌∙◌, subst, arith}
 use Rattle.std.proofs.lemmas.Bool.{and_parts, eqb-true}
 use Rattle.std.proofs.lemmas.List.{take_more}
@@ -32,7 +33,7 @@ use Rattle.cmm_flow.specs.Flow.{CoversParts, HasTokens, IsFlow, IsFlowOf}
 use Rattle.cmm_flow.specs.Laws.{AnswersAreFlows, AreFlows}
 use Rattle.cmm_flow.proofs.Covering.{at_most, each_passes, test_at_most, test_less}
 use Rattle.cmm_flow.proofs.Laying.{and_both}
-use Rattle.cmm_flow.proofs.LivenessMembers.{is_among-append, or_nothing}
+use Rattle.cmm_flow.proofs.LivenessMembers.{is_among-append}
 use Rattle.cmm_flow.proofs.LivenessWaiting.{counted_among, each_tested}
 use Rattle.cmm_flow.proofs.Ranges.{range_is_counted}
 
@@ -79,7 +80,7 @@ results_least site = by site.results refl
     by (t ∷ ts) same = omega (arith, names_least site.results, ap length same)
 
 one_number : (n m : ℕ) → is_among n (m ∷ []) ≡ true → m ≡ n
-one_number n m among = sym (eqb-true n m (sym (or_nothing (n == m)) ∙ among))
+one_number n m among = sym (eqb-true n m (sym (or-false (n == m)) ∙ among))
 
 module _ (p : Program) (q : Proc) where
   paid_at : (n m : ℕ) (site : Site) (size : Site → ℕ) → m ≡ n → slice_get q.sites n ≡ Some site → at_site q m size ≡ size site

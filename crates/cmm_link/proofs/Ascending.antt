@@ -4,7 +4,7 @@ use Rattle.std.specs.Prelude.{◌&&◌, ◌==◌, nat_lt}
 use Rattle.std.specs.List.{IsDistinct, concat}
 use Rattle.std.specs.List.Sorted.{IsSortedBy}
 use Rattle.std.specs.Ordering.{is_lt, nat_cmp}
-use Rattle.std.proofs.lemmas.Bool.{eqb-true}
+use Rattle.std.proofs.lemmas.Bool.{eqb-true, and_from}
 use Rattle.std.proofs.lemmas.Bool.Decides.{nat_tests}
 use Rattle.std.proofs.lemmas.List.{get_or-map, length-map}
 use Rattle.std.proofs.lemmas.Map.Keys.{IsDistinct-from_apart, IsDistinct-tail, apart_from_distinct}
@@ -12,10 +12,6 @@ use Rattle.std.proofs.lemmas.Option.{slice_get-get_or}
 use Rattle.cmm_image.specs.declared.rows.SiteRow.{SiteRow}
 use Rattle.cmm_unit_code.specs.Texts.{AreDistinct, address_in, ascend_above}
 use Rattle.cmm_link.specs.inside.Ascending.{has_lower_address, same_address}
-
-join : (a b : Bool) → a ≡ true → b ≡ true → (a && b) ≡ true
-join true b one two = two
-join false b one two = absurd (cc)
 
 above_it : (a b : ℕ) → is_lt (nat_cmp b a) ≡ false → (a == b) ≡ false → a < b
 above_it a b low differ = grind (arith, nat_tests, low, differ)
@@ -27,7 +23,7 @@ ascends [] before sorted apart first = refl
 ascends (row ∷ rows) before sorted apart first =
     let less = first row (omega arith) in
     let test : nat_lt before row.return_address ≡ true = grind (arith, nat_tests, less) in
-    join (nat_lt before row.return_address) (ascend_above row.return_address (map (λ row. row.return_address) rows)) test
+    and_from (nat_lt before row.return_address) (ascend_above row.return_address (map (λ row. row.return_address) rows)) test
     (ascends rows row.return_address
     (λ k d low inside.
     let e : suc k + 1 ≡ suc (k + 1) = omega arith in

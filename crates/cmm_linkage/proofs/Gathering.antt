@@ -1,4 +1,5 @@
 -- What units export and the names of their registers, one after the other.
+use Rattle.std.proofs.Math.Bool.{or_assoc, or-false}
 use Rattle.std.proofs.Common.{◌≡◌, ℕ, ◌+◌, ◌<◌, Bool, true, false, ◌||◌, not, cond, length, map, take, get_or, refl, ap, sym, ◌∙◌, subst, List, [], ◌∷◌, ◌++◌, Option, Some, None, option_map, append_assoc, append-nil, arith}
 use Rattle.std.specs.Prelude.{bytes_eq, flat_map, is_some, unwrap_or, position, nat_lt, IsPermutation}
 use Rattle.std.specs.Cmp.Lexicographic.{slice_cmp}
@@ -149,22 +150,14 @@ name_added ks k x = by (list_any (λ j. bytes_eq k.now j.now) ks) (among_any k.n
     by true there = or_known (is_among x (map (λ j. j.now) ks)) (bytes_eq x k.now) (λ same. ap (λ n. is_among n (map (λ j. j.now) ks)) ((bytes_eq-Decides x k.now).0 same) ∙ sym there)
     by false new = ap (is_among x) (map-append (λ j. j.now) ks (k ∷ [])) ∙ among_append x (map (λ j. j.now) ks) (k.now ∷ [])
 
-or_false : (p : Bool) → p ≡ (p || false)
-or_false true = refl
-or_false false = refl
-
-or_grouped : (a b c : Bool) → ((a || b) || c) ≡ (a || (b || c))
-or_grouped true b c = refl
-or_grouped false b c = refl
-
 -- where none are added
 pub none_added : (names : List (List ℕ)) → AreAdded [] names names
-none_added names x = or_false (is_among x names)
+none_added names x = sym (or-false (is_among x names))
 
 -- and where some are, and then more
 pub both_added : (some more first now next : List (List ℕ)) → AreAdded some first now → AreAdded more now next → AreAdded (some ++ more) first next
 both_added some more first now next before after x =
-    after x ∙ ap (λ b. b || is_among x more) (before x) ∙ or_grouped (is_among x first) (is_among x some) (is_among x more)
+    after x ∙ ap (λ b. b || is_among x more) (before x) ∙ or_assoc (is_among x first) (is_among x some) (is_among x more)
     ∙ ap (λ b. is_among x first || b) (sym (among_append x some more))
 
 -- ---- their order

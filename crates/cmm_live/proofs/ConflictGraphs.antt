@@ -1,4 +1,5 @@
 -- The pairs that were joined are those that conflict.
+use Rattle.std.proofs.Math.Bool.{and_comm}
 use Rattle.std.proofs.Common.{◌≡◌, ◌⊎◌, inl, inr, ℕ, ◌<◌, ◌==◌, ◌&&◌, ◌||◌, not, Bool, true, false, List, [], ◌∷◌, length, get_or, refl, sym, ◌∙◌, ap, subst}
 use Rattle.std.specs.Prelude.{IsTrue}
 use Rattle.std.specs.List.{list_any}
@@ -35,12 +36,6 @@ any_either p q r s (x ∷ xs) is = elim (or_cases ((p x || q x) && (r x && s x))
       ]
   | inr later ↦ elim (any_either p q r s xs later) [ inl first ↦ inl (or_right (p x && s x) _ first) | inr second ↦ inr (or_right (q x && r x) _ second) ]
 ]
-
-and_swap : (x y : Bool) → (x && y) ≡ (y && x)
-and_swap true true = refl
-and_swap true false = refl
-and_swap false true = refl
-and_swap false false = refl
 
 -- a local is written where its number is one of those that are written
 number_written : (g : Graph) (l : Local) → IsTrue (is_local g l) → (node : Node) → is_number_of g (writes node.kind) (local_number g l) ≡ is_written node l
@@ -88,7 +83,7 @@ module _ (g : Graph) (found : LiveSets) (are : AreLiveSets g found) (written row
 
     site_swap : (a b : Local) → are_at_site g found a b ≡ are_at_site g found b a
     site_swap a b = any_same (λ set. has_local g set a && has_local g set b) (λ set. has_local g set b && has_local g set a)
-        (λ set. and_swap (has_local g set a) (has_local g set b)) found.sites
+        (λ set. and_comm (has_local g set a) (has_local g set b)) found.sites
 
     same_swap : (a b : Local) → is_same b a ≡ is_same a b
     same_swap a b = same_test (is_same b a) (is_same a b) (λ is. ap (is_same a) (same_from b a is) ∙ same_itself a) (λ is. ap (is_same b) (same_from a b is) ∙ same_itself b)

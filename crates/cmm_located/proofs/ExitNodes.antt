@@ -1,6 +1,6 @@
 -- The premises on the nodes of the program with exits of each kind, by tests that compute.
 use Rattle.std.proofs.Common.{◌≡◌, ◌≢◌, ◌⊎◌, inl, inr, ℕ, zero, suc, ◌==◌, ◌&&◌, ◌||◌, not, nat_lt, Bool, true, false, Contains, List, [], ◌∷◌, map, slice_get, slice_index_or, length, ◌<◌, Option, Some, None, arith, refl, sym, subst, ⊎_elim}
-use Rattle.std.proofs.lemmas.Bool.{and_parts}
+use Rattle.std.proofs.lemmas.Bool.{and_parts, or_cases}
 use Rattle.std.proofs.lemmas.Bool.Decides.{nat_tests}
 use Rattle.cmm_program.specs.Liveness.{is_among}
 use Rattle.cmm_graph.specs.declared.number.NodeId.{NodeId}
@@ -37,10 +37,6 @@ every_at test xs x all found = at xs found.0 all found.1 found.2
     at (y ∷ ys) zero all_ less is = subst (λ z. test z ≡ true) is (and_parts (test y) (every test ys) all_).0
     at (y ∷ ys) (suc k) all_ less is = at ys k (and_parts (test y) (every test ys) all_).1 (omega arith) is
 
-pub either : (a b : Bool) → (a || b) ≡ true → (a ≡ true) ⊎ (b ≡ true)
-either true b is = inl refl
-either false b is = inr is
-
 pub same_number : (u m : ℕ) → (u == m) ≡ true → u ≡ m
 same_number u m is = grind (arith, nat_tests, is)
 
@@ -48,13 +44,13 @@ pub among : (test : ℕ → Bool) (us : List ℕ) (u : ℕ) → every test us �
 among test [] u all is = absurd (cc (is))
 among test (m ∷ ms) u all is =
     let parts = and_parts (test m) (every test ms) all in
-    ⊎_elim (λ same. subst (λ x. test x ≡ true) (sym (same_number u m same)) parts.0) (λ later. among test ms u parts.1 later) (either (u == m) (is_among u ms) is)
+    ⊎_elim (λ same. subst (λ x. test x ≡ true) (sym (same_number u m same)) parts.0) (λ later. among test ms u parts.1 later) (or_cases (u == m) (is_among u ms) is)
 
 contained : (u : ℕ) (us : List ℕ) → is_among u us ≡ true → Contains us u
 contained u [] is = absurd (cc (is))
 contained u (m ∷ ms) is =
     ⊎_elim (λ same. (zero, omega arith, sym (same_number u m same))) (λ later. (let found = contained u ms later in (suc found.0, omega (arith, found.1), found.2)))
-    (either (u == m) (is_among u ms) is)
+    (or_cases (u == m) (is_among u ms) is)
 
 pub one_of : {A : Type 0} (x l : A) → Contains (x ∷ []) l → x ≡ l
 one_of x l found = by found.0 found.1 found.2
@@ -88,7 +84,7 @@ is_apart q u v = (u == v) || differ (exiting.plan.place q v) (exiting.plan.place
 
 pub places_apart : (q u v : ℕ) → is_apart q u v ≡ true → u ≢ v → exiting.plan.place q v ≢ exiting.plan.place q u
 places_apart q u v is other = ⊎_elim (λ same. absurd (other (same_number u v same)))
-    (λ apart. are_apart (exiting.plan.place q v) (exiting.plan.place q u) apart) (either (u == v) (differ (exiting.plan.place q v) (exiting.plan.place q u)) is)
+    (λ apart. are_apart (exiting.plan.place q v) (exiting.plan.place q u) apart) (or_cases (u == v) (differ (exiting.plan.place q v) (exiting.plan.place q u)) is)
 
 -- ---- the tests of a node
 
@@ -128,7 +124,7 @@ keeps_by q g m kind is locals keeps = record {
       let same : g ≡ of = cc (is, is_of) in
       let here = one next u (subst (λ x. Contains (successors x kind) next) (sym same) leads) is_live in
       ⊎_elim (λ written. absurd (fresh (subst (λ x. Contains (map (local_number x) (writes kind)) u) same (contained u (numbers g kind) written)))) (λ lives. lives)
-      (either (is_among u (numbers g kind)) (exit-live q m u) here.0);
+      (or_cases (is_among u (numbers g kind)) (exit-live q m u) here.0);
   apart = λ of next u l is_of leads is_live found other.
       let same : g ≡ of = cc (is, is_of) in
       let here = one next u (subst (λ x. Contains (successors x kind) next) (sym same) leads) is_live in

@@ -2,7 +2,7 @@
 use Rattle.std.specs.Prelude.{◌&&◌}
 use Rattle.std.proofs.Common.{◌≡◌, ℕ, ◌+◌, ◌*◌, ◌≤◌, ◌==◌, not, Bool, true, false, List, [], ◌∷◌, ◌++◌, length, refl, sym, ap, subst, ◌∙◌, append_assoc, append-nil, arith, length-append}
 use Rattle.std.specs.List.{list_any}
-use Rattle.std.proofs.lemmas.Bool.{or_from, or_parts, eqb-true, eq-eqb}
+use Rattle.std.proofs.lemmas.Bool.{or_from, or_parts, eqb-true, eq-eqb, and_parts, not-false}
 use Rattle.cmm_moves.specs.declared.sequencing.Move.{Move}
 use Rattle.cmm_moves.specs.Moves.{in_order, at_once, is_outside, is_target, is_source, are_apart}
 use Rattle.cmm_moves.specs.inside.Pending.{IsChain, IsPath, is_spare, CanBeDone, IsTaken, IsFollowed, one_if, most_of, saved, redirected}
@@ -52,11 +52,6 @@ most_pop scratch [] top = omega arith
 most_pop scratch (m ∷ ms) top = let more : length (ms ++ top ∷ []) ≡ length ms + 1 = length-append ms (top ∷ []) in omega arith
 
 -- ---- places inside a test
-
-both_pass : (a b : Bool) → not (a && b) ≡ false → (a ≡ true) × (b ≡ true)
-both_pass true true h = (refl, refl)
-both_pass true false h = absurd (cc)
-both_pass false b h = absurd (cc)
 
 passes : (a b : Bool) → a ≡ true → b ≡ true → not (a && b) ≡ false
 passes a b f g = rw (f, g) refl
@@ -195,7 +190,7 @@ module _ (scratch : ℕ) (first : Move) (waited begun : List Move) (top : Move) 
       (is_outside test (done ++ save m ∷ []) ≡ false) × (is_outside test (aside m ∷ rest) ≡ false)
   inside_broken test m rest spare old stays =
       let parts : (not (test m.to && test m.from) ≡ false) × (is_outside test rest ≡ false) = or_parts (not (test m.to && test m.from)) (is_outside test rest) stays in
-      let both : (test m.to ≡ true) × (test m.from ≡ true) = both_pass (test m.to) (test m.from) parts.0 in (
+      let both : (test m.to ≡ true) × (test m.from ≡ true) = (and_parts (test m.to) (test m.from) (not-false _ parts.0)) in (
         none_in (λ n. not (test n.to && test n.from)) done (save m ∷ []) old (or_from (not (test scratch && test m.from)) false (passes (test scratch) (test m.from) spare both.1) refl),
         or_from (not (test m.to && test scratch)) (is_outside test rest) (passes (test m.to) (test scratch) both.0 spare) parts.1,
       )

@@ -1,4 +1,5 @@
 -- The reads of one file, one after another.
+use Rattle.std.proofs.lemmas.Bool.{or_left, or_right}
 use Rattle.std.proofs.Common.{◌≡◌, ℕ, ◌+◌, ◌≤◌, refl, sym, ◌∙◌, ap, subst, arith, Bool, true, false, List, [], ◌∷◌, ◌++◌, Option, Some, None, IfSome, inl, inr}
 use Rattle.std.specs.Prelude.{◌||◌, ◌==◌, ◌≢◌, nat_lt, Result, Ok, Err}
 use Rattle.std.specs.Result.{IsErrAnd}
@@ -41,14 +42,6 @@ pub ends_there : (name : List ℕ) (limit at to : ℕ) (calls : List ReadCall) (
 ends_there name limit at to [] call here next = (next.named, next.begins ∙ sym here, next.within, (λ last. refl), tt)
 ends_there name limit at to (first ∷ calls) call (is, more, going) next =
     (is.named, is.begins, is.within, (λ last. not_last more last), ends_there name limit (end_of first) to calls call going next)
-
-or_left : (a b : Bool) → a ≡ true → (a || b) ≡ true
-or_left true b is = refl
-or_left false b is = absurd (cc is)
-
-or_right : (a b : Bool) → b ≡ true → (a || b) ≡ true
-or_right true b is = refl
-or_right false b is = is
 
 -- which is the last where it meets the end
 pub whole_there : (limit : ℕ) (calls : List ReadCall) (call : ReadCall) → meets_end limit call ≡ true → is_whole limit (calls ++ call ∷ []) ≡ true

@@ -4,6 +4,7 @@ pub mod Places
 pub mod Samples
 pub mod AskedStores
 pub mod RangeTests
+pub mod Tests
 pub mod Shared
 pub mod Settling
 pub mod Positions

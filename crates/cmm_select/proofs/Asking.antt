@@ -1,4 +1,5 @@
 -- Bytes are put and taken.
+use Rattle.std.proofs.lemmas.Bool.{or_from}
 use Rattle.std.proofs.Common.{◌≡◌, ℕ, ◌+◌, ◌%◌, ◌<◌, ◌^◌, refl, sym, ◌∙◌, ap, subst, arith, pos, Some}
 use Rattle.std.specs.Prelude.{◌==◌, ◌||◌, Bool, true, false, IsTrue}
 use Rattle.std.proofs.lemmas.Bool.Decides.{nat_tests}
@@ -34,15 +35,6 @@ not_of_request r k is h = by (r == k) refl
         let g : is_of_request k ≡ false = subst (λ (j : ℕ). is_of_request j ≡ false) same h in
         absurd (cc)
 
-either : (a b : Bool) → (a || b) ≡ false → b ≡ false
-either false b h = h
-either true b h = absurd (cc)
-
-both_false : (a b : Bool) → a ≡ false → b ≡ false → (a || b) ≡ false
-both_false false false e f = refl
-both_false true b e f = absurd (cc)
-both_false a true e f = absurd (cc)
-
 first_number : (z n : ℕ) → z ≡ 0 → n < 2048 → sum z (modulo 64 (pos n)) ≡ n
 first_number z n none small = omega arith
 
@@ -63,7 +55,7 @@ module _ (x : Code) where
     kept s w ready = record {
       registers = λ r h.
           ready.2.2.others r (not_of_request r 5 refl h) ∙ ready.2.1.others r (not_of_request r 10 refl h)
-          ∙ ready.1.others r (both_false (r == 5) (r == 6) (not_of_request r 5 refl h) (not_of_request r 6 refl h));
+          ∙ ready.1.others r (or_from (r == 5) (r == 6) (not_of_request r 5 refl h) (not_of_request r 6 refl h));
       memory = ready.2.2.memory ∙ ready.2.1.memory ∙ ready.1.memory;
     }
 

@@ -1,4 +1,5 @@
 -- Words of memory in several accesses.
+use Rattle.std.proofs.lemmas.Bool.{or_parts}
 use Rattle.std.proofs.Common.{◌≡◌, ◌≢◌, ℕ, zero, suc, ◌+◌, ◌-◌, ◌*◌, ◌/◌, ◌%◌, ◌<◌, ◌≤◌, ◌^◌, ◌⊎◌, inl, inr, refl, sym, ◌∙◌, ap, subst, arith, pos, List, true, false}
 use Rattle.std.specs.Prelude.{◌==◌, ◌||◌, Bool, IsTrue}
 use Rattle.std.proofs.Math.Nat.{div-div-eq-div-mul, suc-mul}
@@ -174,14 +175,6 @@ access_kept x p o n s t is can = record {
   accessible = λ k h. subst (λ (a : ℕ). IsTrue (is_accessible x.map (a + o + k * bytes p) (bytes p))) (sym is) (can.accessible k h);
 }
 
-first_false : (a b : Bool) → (a || b) ≡ false → a ≡ false
-first_false true b h = absurd (cc)
-first_false false b h = refl
-
-second_false : (a b : Bool) → (a || b) ≡ false → b ≡ false
-second_false false b h = h
-second_false true b h = absurd (cc)
-
 module _ (x : Code) (p : Width) (o rd from to : ℕ) (near : o < 2048) (half : bytes p < 8) (written : rd ≢ 0) where
   pub joins : Then (One (shift_up p)) (Then (One (load_part p 6 5 o)) (One (Add rd 7 6))) x from to → Leads 3 (CanAccess p o 1) (Joins p o rd) x from to
   joins does =
@@ -205,9 +198,9 @@ module _ (x : Code) (p : Width) (o rd from to : ℕ) (near : o < 2048) (half : b
             (second.given ∙ ap (λ (m : ℕ → ℕ). loaded m (t.registers 5 + o) (bytes p)) first.memory
             ∙ ap (λ (a : ℕ). loaded s.memory (a + o) (bytes p)) (first.others 5 refl));
         others = λ r h.
-            third.others r (first_false (r == rd) ((r == 6) || (r == 7)) h)
-            ∙ second.others r (first_false (r == 6) (r == 7) (second_false (r == rd) ((r == 6) || (r == 7)) h))
-            ∙ first.others r (second_false (r == 6) (r == 7) (second_false (r == rd) ((r == 6) || (r == 7)) h));
+            third.others r (or_parts (r == rd) ((r == 6) || (r == 7)) h).0
+            ∙ second.others r (or_parts (r == 6) (r == 7) (or_parts (r == rd) ((r == 6) || (r == 7)) h).1).0
+            ∙ first.others r (or_parts (r == 6) (r == 7) (or_parts (r == rd) ((r == 6) || (r == 7)) h).1).1;
         memory = third.memory ∙ second.memory ∙ first.memory;
       }
 

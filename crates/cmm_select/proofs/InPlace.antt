@@ -2,7 +2,7 @@
 use Rattle.std.proofs.Common.{◌≡◌, ◌≢◌, ◌⊎◌, inl, inr, ℕ, ◌+◌, ◌<◌, ◌≤◌, refl, sym, ◌∙◌, ap, subst, arith, true, false, Option, Some, None, List}
 use Rattle.std.specs.Prelude.{◌==◌, ◌||◌, Bool, IsTrue}
 use Rattle.std.proofs.lemmas.Bool.Decides.{nat_tests}
-use Rattle.std.proofs.lemmas.Bool.{eqb-true}
+use Rattle.std.proofs.lemmas.Bool.{eqb-true, or_parts}
 use Rattle.std.proofs.lemmas.Option.{same_Some}
 use Rattle.cmm_abi.specs.Registers.{is_scratch}
 use Rattle.cmm_words.specs.Widths.{IsWord}
@@ -171,16 +171,8 @@ locates_both x from to left right a b labels good home does =
 
 -- ---- results
 
-first_false : (c d : Bool) → (c || d) ≡ false → c ≡ false
-first_false true d h = absurd (cc (h))
-first_false false d h = refl
-
-second_false : (c d : Bool) → (c || d) ≡ false → d ≡ false
-second_false true d h = absurd (cc (h))
-second_false false d h = h
-
 pub set_beside : (rd n : ℕ) (s t : State) → Sets rd n s t → KeepsBeside rd s t
-set_beside rd n s t sets = record { registers = λ k is. sets.others k (first_false (k == rd) (is_scratch k) is); memory = sets.memory }
+set_beside rd n s t sets = record { registers = λ k is. sets.others k (or_parts (k == rd) (is_scratch k) is).0; memory = sets.memory }
 
 pub brings_beside : (rd n : ℕ) (s t : State) → Brings rd n s t → KeepsBeside rd s t
 brings_beside rd n s t brings = record { registers = λ k is. brings.others k (by k (k == rd) refl is); memory = brings.memory }
@@ -196,7 +188,7 @@ brings_beside rd n s t brings = record { registers = λ k is. brings.others k (b
             let g : is_scratch 6 ≡ false = subst (λ (n : ℕ). is_scratch n ≡ false) same is in absurd (cc)
 
 pub keeps_beside : (rd : ℕ) (s t : State) → Keeps s t → KeepsBeside rd s t
-keeps_beside rd s t keeps = record { registers = λ k is. keeps.registers k (second_false (k == rd) (is_scratch k) is); memory = keeps.memory }
+keeps_beside rd s t keeps = record { registers = λ k is. keeps.registers k (or_parts (k == rd) (is_scratch k) is).1; memory = keeps.memory }
 
 pub beside_then : (rd : ℕ) (s t u : State) → KeepsBeside rd s t → KeepsBeside rd t u → KeepsBeside rd s u
 beside_then rd s t u first second = record { registers = λ k is. second.registers k is ∙ first.registers k is; memory = second.memory ∙ first.memory }

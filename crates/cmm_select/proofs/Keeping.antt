@@ -1,4 +1,5 @@
 -- What is as it was where only scratch registers are changed: operands, and what is put somewhere.
+use Rattle.std.proofs.lemmas.Bool.{or_parts}
 use Rattle.std.proofs.Common.{◌≡◌, ℕ, ◌+◌, ◌<◌, ◌^◌, refl, sym, ◌∙◌, ap, subst, arith, true, false}
 use Rattle.std.specs.Prelude.{◌==◌, ◌||◌, Bool, IsTrue}
 use Rattle.std.proofs.lemmas.Bool.Decides.{nat_tests}
@@ -60,14 +61,10 @@ brings_keeps rd n s t scratch brings = record {
 
 -- ---- what is put
 
-neither : (a b : Bool) → (a || b) ≡ false → b ≡ false
-neither false b h = h
-neither true b h = absurd (cc)
-
 register_put_after : (r n : ℕ) (s t u : State) → Keeps s t → PutsRegister r n t u → PutsRegister r n s u
 register_put_after r n s t u keeps puts = (
   puts.0,
-  λ k h. puts.1 k h ∙ keeps.registers k (neither (k == r) (is_scratch k) h),
+  λ k h. puts.1 k h ∙ keeps.registers k (or_parts (k == r) (is_scratch k) h).1,
   puts.2 ∙ keeps.memory,
 )
 

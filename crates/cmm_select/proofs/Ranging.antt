@@ -1,4 +1,5 @@
 -- A value is in a range, in one of some ranges, or an arm is for it.
+use Rattle.std.proofs.Math.Bool.{or-false}
 use Rattle.std.proofs.Common.{◌≡◌, ℕ, ◌+◌, ◌-◌, ◌*◌, ◌<◌, ◌≤◌, ◌^◌, ◌⊎◌, inl, inr, suc, refl, sym, ◌∙◌, ap, subst, arith, List, [], ◌∷◌, ◌++◌, length, take, get_or, true, false, pos, ◌-ℤ◌}
 use Rattle.std.specs.Prelude.{◌||◌, ◌&&◌, ◌==◌, Bool, not, nat_le, nat_lt}
 use Rattle.std.proofs.Math.Seq.{take-suc}
@@ -42,24 +43,20 @@ outside f t v h order fits =
     let e : difference v f ≡ v + 2 ^ 64 - f = omega arith in
     ap (λ (d : ℕ). not (nat_lt (t - f) d)) e ∙ grind (arith, nat_tests)
 
-none_or : (b : Bool) → (b || false) ≡ b
-none_or true = refl
-none_or false = refl
-
 in_range : (f t v : ℕ) → f ≤ t → t < 2 ^ 64 → v < 2 ^ 64 → not (nat_lt (t - f) (difference v f)) ≡ ((nat_le f v && nat_le v t) || false)
 in_range f t v order fits small =
-    elim (either f v) [ inl low ↦ inside f t v low order small | inr high ↦ outside f t v high order fits ] ∙ sym (none_or (nat_le f v && nat_le v t))
+    elim (either f v) [ inl low ↦ inside f t v low order small | inr high ↦ outside f t v high order fits ] ∙ sym (or-false (nat_le f v && nat_le v t))
   where
     either : (f v : ℕ) → (f ≤ v) ⊎ (v < f)
     either f v = grind arith
 
 -- one number
 alone : (f t v : ℕ) → f ≡ t → (v == f) ≡ ((nat_le f v && nat_le v t) || false)
-alone f t v same = grind (arith, nat_tests) ∙ sym (none_or (nat_le f v && nat_le v t))
+alone f t v same = grind (arith, nat_tests) ∙ sym (or-false (nat_le f v && nat_le v t))
 
 -- a range that falls has no value
 falls : (f t v : ℕ) → t < f → ((nat_le f v && nat_le v t) || false) ≡ false
-falls f t v h = none_or (nat_le f v && nat_le v t) ∙ grind (arith, nat_tests)
+falls f t v h = or-false (nat_le f v && nat_le v t) ∙ grind (arith, nat_tests)
 
 module _ (x : Code) (from on : ℕ) (r : Range) (l : Label) where
   pub goes_past : r.to < r.from → from ≡ on → GoesInRanges 20 (r ∷ []) l x from on

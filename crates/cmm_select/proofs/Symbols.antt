@@ -1,4 +1,5 @@
 -- What names a label: operands, and global registers.
+use Rattle.std.proofs.lemmas.Bool.{or_parts}
 use Rattle.std.proofs.Common.{◌≡◌, ◌≢◌, ℕ, ◌+◌, ◌<◌, ◌^◌, refl, sym, ◌∙◌, ap, subst, arith, pos, true, false}
 use Rattle.std.specs.Prelude.{◌==◌, ◌||◌, Bool, IsTrue}
 use Rattle.rv_asm.specs.Appending.{Then}
@@ -22,19 +23,11 @@ use Rattle.cmm_select.specs.Operands.{Brings}
 abbrev pub Names : ℕ → Label → Code → ℕ → ℕ → Type 0
 Names rd l x from to = Does x (Address rd l) from to
 
-first_false : (a b : Bool) → (a || b) ≡ false → a ≡ false
-first_false true b h = absurd (cc)
-first_false false b h = refl
-
-second_false : (a b : Bool) → (a || b) ≡ false → b ≡ false
-second_false false b h = h
-second_false true b h = absurd (cc)
-
 -- where a register is set, nothing but it and register 6 is changed
 pub brings_set : (rd n : ℕ) (s t : State) → Sets rd n s t → Brings rd n s t
 brings_set rd n s t sets = record {
   given = sets.given;
-  others = λ r h. sets.others r (first_false (r == rd) (r == 6) h);
+  others = λ r h. sets.others r (or_parts (r == rd) (r == 6) h).0;
   memory = sets.memory;
 }
 
@@ -71,8 +64,8 @@ module _ (x : Code) (rd from to : ℕ) (l : Label) where
         given = third.given ∙ ap (λ (n : ℕ). sum n (u.registers 6)) second.given
             ∙ ap (sum (x.at l.number)) (second.others 6 (not_same 6 rd (λ e. other (sym e))) ∙ first.given);
         others = λ r h.
-            third.others r (first_false (r == rd) (r == 6) h) ∙ second.others r (first_false (r == rd) (r == 6) h)
-            ∙ first.others r (second_false (r == rd) (r == 6) h);
+            third.others r (or_parts (r == rd) (r == 6) h).0 ∙ second.others r (or_parts (r == rd) (r == 6) h).0
+            ∙ first.others r (or_parts (r == rd) (r == 6) h).1;
         memory = third.memory ∙ second.memory ∙ first.memory;
       }
 

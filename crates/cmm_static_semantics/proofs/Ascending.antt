@@ -1,6 +1,7 @@
 -- Names in ascending order: the same names are among them, and there is one such order of them.
+use Rattle.cmm_program.proofs.Shared.{or_left_comm}
 use Rattle.std.proofs.Common.{◌≡◌, ℕ, refl, sym, ap, ◌∙◌, subst, Bool, true, false, ◌||◌, List, [], ◌∷◌, ◌++◌}
-use Rattle.std.proofs.Math.Bool.{or_assoc}
+use Rattle.std.proofs.Math.Bool.{or_assoc, or_self_left}
 use Rattle.std.specs.Prelude.{bytes_eq}
 use Rattle.std.specs.List.{AllByRecursion}
 use Rattle.std.specs.List.Sorted.{IsStrictlySortedBy}
@@ -34,16 +35,6 @@ turned x y is = nat_list_cmp_total.antisymm y x ∙ ap ordering_reverse is
 
 -- ---- what is among them
 
-first_again : (b c : Bool) → (b || c) ≡ (b || (b || c))
-first_again true c = refl
-first_again false c = refl
-
-exchanged : (a b c : Bool) → (b || (a || c)) ≡ (a || (b || c))
-exchanged true true c = refl
-exchanged true false c = refl
-exchanged false true c = refl
-exchanged false false c = refl
-
 among_put : (x name : Name) (ns : List Name) → is_among x (put_among name ns) ≡ (bytes_eq x name || is_among x ns)
 among_put x name [] = refl
 among_put x name (n ∷ ns) = by (slice_cmp nat_cmp name n) refl (among_put x name ns)
@@ -51,8 +42,8 @@ among_put x name (n ∷ ns) = by (slice_cmp nat_cmp name n) refl (among_put x na
     by : (o : Ordering) → slice_cmp nat_cmp name n ≡ o → is_among x (put_among name ns) ≡ (bytes_eq x name || is_among x ns) →
         is_among x (elim o as (λ _. List Name) [ Less ↦ name ∷ n ∷ ns | Equal ↦ n ∷ ns | Greater ↦ n ∷ put_among name ns ]) ≡ (bytes_eq x name || (bytes_eq x n || is_among x ns))
     by Less is later = refl
-    by Equal is later = subst (λ (m : Name). is_among x (n ∷ ns) ≡ (bytes_eq x m || (bytes_eq x n || is_among x ns))) (sym (one_name name n is)) (first_again (bytes_eq x n) (is_among x ns))
-    by Greater is later = ap (λ b. bytes_eq x n || b) later ∙ exchanged (bytes_eq x name) (bytes_eq x n) (is_among x ns)
+    by Equal is later = subst (λ (m : Name). is_among x (n ∷ ns) ≡ (bytes_eq x m || (bytes_eq x n || is_among x ns))) (sym (one_name name n is)) (sym (or_self_left (bytes_eq x n) (is_among x ns)))
+    by Greater is later = ap (λ b. bytes_eq x n || b) later ∙ or_left_comm (bytes_eq x n) (bytes_eq x name) (is_among x ns)
 
 pub among_append : (x : Name) (xs ys : List Name) → is_among x (xs ++ ys) ≡ (is_among x xs || is_among x ys)
 among_append x [] ys = refl

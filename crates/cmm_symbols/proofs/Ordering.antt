@@ -2,7 +2,7 @@
 use Rattle.std.proofs.Common.{◌≡◌, ℕ, ◌<◌, ◌==◌, Bool, true, false, ◌||◌, ◌&&◌, ◌⊎◌, inl, inr, List, [], ◌∷◌, ◌++◌, Option, Some, None, refl, sym, ◌∙◌, ap, arith}
 use Rattle.std.specs.Prelude.{nat_lt, flat_map}
 use Rattle.std.proofs.lemmas.Bool.Decides.{nat_tests}
-use Rattle.std.proofs.lemmas.Bool.{and_parts, or_cases, eqb-true, eq-eqb, ltb-true, lt-ltb, false_from_ne_true}
+use Rattle.std.proofs.lemmas.Bool.{and_parts, or_cases, eqb-true, eq-eqb, ltb-true, lt-ltb, false_from_ne_true, both_ways}
 use Rattle.cmm_rules.specs.declared.rule.Rule.{Rule}
 use Rattle.cmm_rules.specs.Rules.{rule_number}
 use Rattle.cmm_rules.proofs.Shared.{one_rule}
@@ -125,9 +125,6 @@ spot_order =
     (order_by_number_then (λ s. s.token) (λ a b. nat_lt (rule_number a.rule) (rule_number b.rule)) (λ a b. rule_number a.rule ≡ rule_number b.rule) (order_by_number (λ s. rule_number s.rule)))
 
 -- ---- the first by an order
-
-both_ways : (b : Bool) → b ≡ true → b ≡ false → ⊥
-both_ways b t f = let e : true ≡ false = sym t ∙ f in cc
 
 abbrev chosen : {A : Type 0} → Bool → A → A → Option A
 chosen b x y = elim b [ true ↦ Some x | false ↦ Some y ]

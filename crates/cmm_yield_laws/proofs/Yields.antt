@@ -2,7 +2,7 @@
 use Rattle.std.proofs.Common.{not, ◌≡◌, inr, ℕ, zero, suc, Bool, true, false, List, [], ◌∷◌, ◌++◌, length, Option, Some, refl, sym, ap, ◌∙◌, subst, arith, slice_get}
 use Rattle.std.specs.Prelude.{◌==◌, slice_index_or, Ok, Err}
 use Rattle.std.specs.List.{AllZip}
-use Rattle.std.proofs.lemmas.Bool.{or_parts}
+use Rattle.std.proofs.lemmas.Bool.{or_parts, not-false}
 use Rattle.std.proofs.lemmas.Option.{same_Some}
 use Rattle.cmm_script.specs.Lines.{yield_line}
 use Rattle.rv_table.specs.Bounds.{IsSound}
@@ -53,10 +53,6 @@ use Rattle.cmm_emit_laws.specs.Standing.{IsInBody, IsOfRun, Stands, outside_at, 
 use Rattle.cmm_simulation.specs.Tested.{fails}
 use Rattle.cmm_yield_laws.specs.Standing.{StandsOrWaits}
 use Rattle.cmm_yield_laws.specs.Yielding.{AreNumbersOf, HaveYields, YieldCode}
-
-not_false : (b : Bool) → not b ≡ false → b ≡ true
-not_false true is = refl
-not_false false is = absurd (cc)
 
 -- the state behind a yield of these values
 abbrev pub waiting_at : ℕ → List ℕ → Located → Located
@@ -212,7 +208,7 @@ module _ (line : LineUnseen) (s : Setting) (c : Compiled) (l : Launch) (f : Fini
           let waits : located_step s c at ≡ waiting_at site.number vs at = steps ∙ sym (place_is whole) in
           let fails_not : not (walk_fits (walk_of s (shown s c (waiting_at site.number vs at)))) ≡ false =
           sym (ap (λ (z : Located). fails event_fits ((located_machine s c).asks z)) waits) ∙ fit in
-          yield_waits vs is_vs passes (not_false (walk_fits (walk_of s (shown s c (waiting_at site.number vs at)))) fails_not) waits
+          yield_waits vs is_vs passes (not-false (walk_fits (walk_of s (shown s c (waiting_at site.number vs at)))) fails_not) waits
       by (Ok vs) is_vs false passes e =
           let never : ◌≡◌ {A = Tried Located} (Err WrongAlternates) (Ok after) =
           sym (ap (λ (b : Bool). and_then (Ok (order.Yield site.number vs)) (λ o. tested b vs)) passes) ∙ e in absurd (cc)
