@@ -12,6 +12,8 @@
 
    FILE_ROOM is how many bytes a file may get: a write beyond is cut there, and fails where it would begin there.
 
+   LONGEST_CALL is how many bytes a read of a file or a write moves at most; where it is 0, a write takes nothing, and says so without a fault.
+
    The functions are those of the C library that a program calls; each goes on to the system's call of its name. */
 #define _GNU_SOURCE
 #include <errno.h>
@@ -40,6 +42,13 @@ __attribute__((constructor)) static void begin(void)
     /* (the signal would end the program where the write fails) */
     signal(SIGXFSZ, SIG_IGN);
     setrlimit(RLIMIT_FSIZE, &limit);
+}
+
+/* How many bytes a call moves that is to move so many. */
+static size_t moved(size_t size)
+{
+    const char *longest = getenv("LONGEST_CALL");
+    return longest != NULL && size > (size_t)atol(longest) ? (size_t)atol(longest) : size;
 }
 
 /* Counts a call on the device, and tells whether it is the one that fails. */
@@ -74,14 +83,17 @@ ssize_t read(int file, void *bytes, size_t size)
 {
     if (fails(file == STDIN_FILENO ? "input" : "reads"))
         return -1;
-    return syscall(SYS_read, file, bytes, file == STDIN_FILENO && size > 1 ? 1 : size);
+    /* (a read of nothing is the end of a file) */
+    size_t piece = moved(size) > 0 ? moved(size) : size;
+    return syscall(SYS_read, file, bytes, file == STDIN_FILENO && piece > 1 ? 1 : piece);
 }
 
 ssize_t write(int file, const void *bytes, size_t size)
 {
     if (fails(file == STDOUT_FILENO ? "output" : file == STDERR_FILENO ? "log" : "writes"))
         return -1;
-    return syscall(SYS_write, file, bytes, size);
+    size_t piece = moved(size);
+    return size > 0 && piece == 0 ? 0 : syscall(SYS_write, file, bytes, piece);
 }
 
 ssize_t __write(int file, const void *bytes, size_t size)

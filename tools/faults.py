@@ -6,6 +6,7 @@
     input      standard input that ends in mid-run
     deep       the deepest units that there are, with a stack of 4 MiB
     calls      each of the first 40 calls on files, streams and their bytes fails in turn (failing_calls.c), in `build`, `run`, `exec` and `walk`
+    pieces     the same commands where a call moves only a few bytes of a file or a stream, and where a write takes nothing
     memory     each request for memory is refused in turn, in `exec` of two units with a client and in `run` with `--save`; only where this part is named
 
 Of each it tests the status and the line, that no file changed but the one that the words name, and that this has a front of what was to be written. The last line is
@@ -31,6 +32,7 @@ MIB = 1 << 20
 STACK = 4 * MIB
 ALIKE = 40
 CALLS = 40
+PIECES = (1, 2, 3, 7, 100)
 
 SUM = b"export main; main() { return (2 + 3); }"
 PUT = b'export main; main() { foreign "C" cmm_putbyte(65); foreign "C" cmm_putbyte(10); return (7); }'
@@ -285,18 +287,22 @@ def deep(cases):
 # ---- calls that fail
 
 
-def failing_calls(cases):
-    """Each of the first 40 calls on a device fails in turn."""
+def commands_of(cases):
+    """A call of each command: its words, the files that it has, and the file that it writes."""
     units, image = {"a.cmm": YIELDS, "b.cmm": ASKS}, cases.image(YIELDS, ASKS)
     saved = run_answer(image, STOPS, b"xy").saved
-    commands = [
+    return [
         (["build", "a.cmm", "b.cmm", "-o", "i"], {**units, "i": b"old"}, "i"),
         (["exec", "a.cmm", "b.cmm", "--client", "c"], {**units, "c": SCRIPT}, None),
         (["run", "i", "--client", "c"], {"i": image, "c": SCRIPT}, None),
         (["run", "i", "--client", "c", "--save", "s"], {"i": image, "c": STOPS, "s": b"old"}, "s"),
         (["walk", "i", "s"], {"i": image, "s": saved}, None),
     ]
-    for words, files, written in commands:
+
+
+def failing_calls(cases):
+    """Each of the first 40 calls on a device fails in turn."""
+    for words, files, written in commands_of(cases):
         for device in ("files", "reads", "writes", "input", "output", "log"):
             failing_device(cases, words, files, written, device)
 
@@ -333,6 +339,26 @@ def what_failed(cases, title, found, whole, files, written, device):
             cases.fault(title, f"left {name} otherwise")
 
 
+# ---- calls that move a few bytes
+
+
+def pieces(cases):
+    """Reads and writes of a few bytes change nothing; where a write takes nothing, that is an output fault."""
+    for words, files, written in commands_of(cases):
+        whole = rows.call(cases.program, words, files, b"xy")
+        for longest in PIECES:
+            cases.count += 1
+            found = rows.call(cases.program, words, files, b"xy", rows.Limits(longest=longest))
+            if found != whole:
+                cases.fault(f"{' '.join(words)}, {longest} bytes a call", f"answered {found.status} {found.output!r} {found.log[-99:]!r} {shown(found.files)}, and not as in whole calls")
+        cases.count += 1
+        found = rows.call(cases.program, words, files, b"xy", rows.Limits(longest=0))
+        # (the line that says so is not taken either)
+        left = {**files, written: b""} if words[0] == "build" else files
+        if (found.status, found.output, found.log, found.files) != (OUTPUT_FAULT, b"", b"", left):
+            cases.fault(f"{' '.join(words)}, where a write takes nothing", f"answered {found.status} {found.output!r} {found.log[-99:]!r} {shown(found.files)}")
+
+
 # ---- memory
 
 
@@ -363,8 +389,8 @@ def refused_requests(cases, words, files):
         cases.fault(" ".join(words), "asks for no memory")
 
 
-PARTS = {"devices": devices, "names": names, "input": inputs, "deep": deep, "calls": failing_calls, "memory": refused_memory}
-USUAL_PARTS = ("devices", "names", "input", "deep", "calls")
+PARTS = {"devices": devices, "names": names, "input": inputs, "deep": deep, "calls": failing_calls, "pieces": pieces, "memory": refused_memory}
+USUAL_PARTS = ("devices", "names", "input", "deep", "calls", "pieces")
 
 
 def main(program, *parts):

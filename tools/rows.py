@@ -24,6 +24,7 @@ A file has one of these after its name, and so has `then`; the paths of `from` b
                                 `first 0 .. 3 bytes` (a run for each length), `each byte xor ff` or `each byte is 00` (a run for each byte), `at 64 00 00`, `24 has 00 01`
                                 (which those bytes must be already), `and 00` (at the end)
 
+`longest: 2` is how many bytes a read of a file or a write moves at most (`1 .. 3`: a run for each number); with 0 a write takes nothing.
 `input fails`, `output fails` and `log fails` make that stream one that cannot be read or written. `fails: log 2` makes one call on a device fail, counted from
 0 (`files 0 .. 37`: a run for each); tools/failing_calls.c, which is compiled for that and preloaded, has the devices. `room: files 0 .. 9` is how many bytes a file
 may get, a run for each number, and then just so many first bytes of each file of a `then` must be there; `room: log 3` is that of the log. `front = "abc"` is an output of which
@@ -74,6 +75,7 @@ class Case:
     failing: set = dataclasses.field(default_factory=set)
     calls: str = ""
     room: str = ""
+    longest: str = ""
     front: bytes | None = None
     cut_log: bytes | None = None
     files: dict = dataclasses.field(default_factory=dict)
@@ -120,8 +122,8 @@ def take(case, line):
         case.output = plain(rest)
     elif key == "status":
         case.status = int(plain(rest))
-    elif key in ("fails", "room"):
-        setattr(case, "calls" if key == "fails" else "room", plain(rest).decode())
+    elif key in ("fails", "room", "longest"):
+        setattr(case, "calls" if key == "fails" else key, plain(rest).decode())
     elif key == "front":
         case.front = plain(rest)
     elif key == "log" and rest.startswith("= "):
@@ -222,21 +224,32 @@ def frames_of(image):
 
 @dataclasses.dataclass(frozen=True)
 class Limits:
-    """What the world outside refuses in a run: calls on devices, which cannot be used at all, the one call on a device that fails, and bytes of a file beyond so many."""
+    """What the world outside refuses in a run: calls on devices, which cannot be used at all, the one call on a device that fails, bytes of a file beyond so many, and more
+    bytes than so many in one call."""
 
     failing: frozenset = frozenset()
     device: str = ""
     call: int = 0
     room: int | None = None
+    longest: int | None = None
     log_is_file: bool = False
 
     def any(self):
         return self != Limits()
 
+    def told(self):
+        """Which of a case's runs this is, in words; none where it has one run."""
+        if self.device:
+            return f"where call {self.call} on {self.device} fails: "
+        if self.room is not None:
+            return f"with room for {self.room} bytes: "
+        return "" if self.longest is None else f"with {self.longest} bytes a call: "
+
     def environment(self):
         """The variables that tell the preloaded library what to refuse."""
         told = {"FAILING_CALL": f"{self.device} {self.call}"} if self.device else {}
         told.update({} if self.room is None else {"FILE_ROOM": str(self.room)})
+        told.update({} if self.longest is None else {"LONGEST_CALL": str(self.longest)})
         return {**os.environ, "LD_PRELOAD": failing_calls(), **told} if told else None
 
 
@@ -333,7 +346,7 @@ class Runner:
 
     def limits_of(self, case):
         """What the world outside refuses in each run of a case."""
-        device, _, told = (case.calls or case.room).partition(" ")
+        device, _, told = (case.calls or case.room or (case.longest and f"all {case.longest}")).partition(" ")
         told, _, names = told.partition(" of ")
         ends = {"end": len(self.image_of(case, names.split()))} if names else {}
         least, most = (told.split(" .. ") * 2)[:2] if told else ("0", "0")
@@ -341,6 +354,8 @@ class Runner:
         failing = frozenset(case.failing)
         if case.room:
             return [Limits(failing, room=number, log_is_file=device == "log") for number in numbers]
+        if case.longest:
+            return [Limits(failing, longest=number) for number in numbers]
         return [Limits(failing, device, number) for number in numbers]
 
     def runs(self, case):
@@ -368,8 +383,8 @@ class Runner:
         words, given = [filled(word, texts) for word in shlex.split(case.words)], self.contents(case, case.input)[0]
         answer = call(self.program, words, files, given, limits)
         fault = fault_of_answer(case, texts, answer, limits)
-        if fault and (limits.device or limits.room is not None):
-            fault = f"where call {limits.call} on {limits.device} fails: {fault}" if limits.device else f"with room for {limits.room} bytes: {fault}"
+        if fault:
+            fault = limits.told() + fault
         if fault is None and answer.files != then:
             fault = f"the files {told_apart(answer.files, then)} are not as they must be"
         if fault is None and case.answers:
