@@ -1,6 +1,6 @@
 -- Registers by colours, and slots for the other locals, are what a colouring is to give.
-use Rattle.std.proofs.Common.{◌≡◌, ◌≢◌, ◌⊎◌, inl, inr, ℕ, zero, suc, ◌+◌, ◌*◌, ◌<◌, ◌≤◌, nat_le, nat_lt, Bool, true, false, ◌&&◌, not, Contains, List, [], ◌∷◌, ◌++◌, get_or, length, Option, Some, None, is_some, refl, ap, sym, ◌∙◌, subst, arith, length-append}
-use Rattle.std.proofs.lemmas.Bool.{and_from, and_parts, eq-eqb, or_right}
+use Rattle.std.proofs.Common.{◌≡◌, ◌≢◌, ◌⊎◌, inl, inr, ℕ, zero, suc, ◌+◌, ◌*◌, ◌<◌, ◌≤◌, ◌==◌, nat_lt, Bool, true, false, ◌&&◌, not, Contains, List, [], ◌∷◌, ◌++◌, get_or, length, Option, Some, None, is_some, refl, ap, sym, ◌∙◌, subst, arith, length-append}
+use Rattle.std.proofs.lemmas.Bool.{and_from, and_parts, eq-eqb, not-true, or_right}
 use Rattle.std.proofs.lemmas.Bool.Decides.{nat_tests}
 use Rattle.std.proofs.lemmas.List.{get_or_append_left, get_or-append-add, get_or_default}
 use Rattle.cmm_abi.specs.Registers.{callee_saves}
@@ -32,37 +32,29 @@ use Rattle.cmm_allocate.proofs.SlotOrder.{no_more_slot, one_more_slot, slots_ord
 
 -- ---- lists of registers
 
--- a list of numbers that ascend, from one on
-abbrev ascends : ℕ → List ℕ → Bool
-ascends least [] = true
-ascends least (x ∷ xs) = nat_le least x && ascends (suc x) xs
+-- a number is not in a list
+abbrev is_absent : ℕ → List ℕ → Bool
+is_absent x [] = true
+is_absent x (y ∷ ys) = not (x == y) && is_absent x ys
 
-from_least : (least : ℕ) (xs : List ℕ) (c : ℕ) → ascends least xs ≡ true → c < length xs → least ≤ get_or xs c 0
-from_least least [] c is less = absurd (omega arith)
-from_least least (x ∷ xs) zero is less = let both = and_parts (nat_le least x) (ascends (suc x) xs) is in grind (arith, nat_tests, both.0)
-from_least least (x ∷ xs) (suc c) is less =
-    let both = and_parts (nat_le least x) (ascends (suc x) xs) is in
-    let first : least ≤ x = grind (arith, nat_tests, both.0) in
-    let rest = from_least (suc x) xs c both.1 (omega (arith, less)) in omega (arith, first, rest)
+-- no number of a list comes again
+abbrev differ : List ℕ → Bool
+differ [] = true
+differ (x ∷ xs) = is_absent x xs && differ xs
 
-later_more : (least : ℕ) (xs : List ℕ) (c d : ℕ) → ascends least xs ≡ true → c < d → d < length xs → get_or xs c 0 < get_or xs d 0
-later_more least [] c d is less low = absurd (omega arith)
-later_more least (x ∷ xs) c zero is less low = absurd (omega arith)
-later_more least (x ∷ xs) zero (suc d) is less low =
-    let both = and_parts (nat_le least x) (ascends (suc x) xs) is in
-    let rest = from_least (suc x) xs d both.1 (omega (arith, low)) in omega (arith, rest)
-later_more least (x ∷ xs) (suc c) (suc d) is less low =
-    let both = and_parts (nat_le least x) (ascends (suc x) xs) is in later_more (suc x) xs c d both.1 (omega (arith, less)) (omega (arith, low))
+absent_at : (x : ℕ) (ys : List ℕ) (c : ℕ) → is_absent x ys ≡ true → c < length ys → x ≡ get_or ys c 0 → ⊥
+absent_at x [] c is less same = omega (arith, less)
+absent_at x (y ∷ ys) zero is less same = let other = not-true (x == y) (and_parts (not (x == y)) (is_absent x ys) is).0 in grind (arith, nat_tests, other, same)
+absent_at x (y ∷ ys) (suc c) is less same = let both = and_parts (not (x == y)) (is_absent x ys) is in absent_at x ys c both.1 (omega (arith, less)) same
 
 -- registers of different colours differ
-registers_differ : (xs : List ℕ) (c d : ℕ) → ascends 0 xs ≡ true → c < length xs → d < length xs → get_or xs c 0 ≡ get_or xs d 0 → c ≡ d
-registers_differ xs c d is c_low d_low same = by (nat_lt c d) (nat_lt d c) refl refl
-  where
-    by : (a b : Bool) → nat_lt c d ≡ a → nat_lt d c ≡ b → c ≡ d
-    by true b less more = (let lower : c < d = grind (arith, nat_tests, less) in let apart = later_more 0 xs c d is lower d_low in absurd (omega (arith, apart, same)))
-    by false true less more = (let lower : d < c = grind (arith, nat_tests, more) in let apart = later_more 0 xs d c is lower c_low in absurd (omega (arith, apart, same)))
-    by false false less more =
-        (let one : d ≤ c = grind (arith, nat_tests, less) in let other : c ≤ d = grind (arith, nat_tests, more) in omega (arith, one, other))
+registers_differ : (xs : List ℕ) (c d : ℕ) → differ xs ≡ true → c < length xs → d < length xs → get_or xs c 0 ≡ get_or xs d 0 → c ≡ d
+registers_differ [] c d is c_low d_low same = absurd (omega (arith, c_low))
+registers_differ (x ∷ xs) zero zero is c_low d_low same = refl
+registers_differ (x ∷ xs) zero (suc d) is c_low d_low same = absurd (absent_at x xs d (and_parts (is_absent x xs) (differ xs) is).0 (omega (arith, d_low)) same)
+registers_differ (x ∷ xs) (suc c) zero is c_low d_low same = absurd (absent_at x xs c (and_parts (is_absent x xs) (differ xs) is).0 (omega (arith, c_low)) (sym same))
+registers_differ (x ∷ xs) (suc c) (suc d) is c_low d_low same =
+    ap suc (registers_differ xs c d (and_parts (is_absent x xs) (differ xs) is).1 (omega (arith, c_low)) (omega (arith, d_low)) same)
 
 -- ---- colours of a class
 

@@ -228,7 +228,7 @@ allocated = record {
   count = refl;
   temporary = λ v r less is. subst (λ v. Contains temporaries r × (suits_temporary graph sets v ≡ true)) (first_only v less) (
     let at : place_at places.locals 0 ≡ Temp r = subst (λ v. place_at places.locals v ≡ Temp r) (sym (first_only v less)) is in
-        let same : 12 ≡ r = cc (at) in subst (λ r. Contains temporaries r) same (0, lit< tt, refl),
+        let same : 12 ≡ r = cc (at) in subst (λ r. Contains temporaries r) same (4, lit< tt, refl),
     refl,
   );
   saved = λ v r less is. (let at : place_at places.locals 0 ≡ Saved r = subst (λ v. place_at places.locals v ≡ Saved r) (sym (first_only v less)) is in absurd (cc (at)));

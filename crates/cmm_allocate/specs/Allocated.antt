@@ -12,9 +12,9 @@ use Rattle.cmm_located.specs.Layouts.{slot_offsets}
 use Rattle.cmm_allocate.specs.Classes.{conflict, conflict_within, suits_callee_saves, suits_temporary}
 use Rattle.cmm_allocate.specs.Placed.{place_at}
 
--- the temporary registers that locals get: a2 to a5, in which values travel, and t3 to t6
+-- the temporary registers that locals get: t3 to t6, and a2 to a5, in which values travel
 abbrev pub temporaries : List ℕ
-temporaries = 12 ∷ 13 ∷ 14 ∷ 15 ∷ 28 ∷ 29 ∷ 30 ∷ 31 ∷ []
+temporaries = 28 ∷ 29 ∷ 30 ∷ 31 ∷ 12 ∷ 13 ∷ 14 ∷ 15 ∷ []
 
 abbrev pub is_in_temporary : Location → Bool
 is_in_temporary (Temp r) = true

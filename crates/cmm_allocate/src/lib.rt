@@ -6,6 +6,7 @@
 //!
 //! - `classes`: which locals suit registers of either kind.
 //! - `colouring`: registers by the conflicts of locals, and slots for those that get none.
+//! - `hints`: which registers suit locals that take or pass values.
 //! - `layout`: the frame of a procedure, for the places of its locals.
 //! - `procedure`: the places of one procedure.
 //! - `program`: those of all procedures.
@@ -15,6 +16,7 @@
 
 mod classes;
 mod colouring;
+mod hints;
 pub mod laws;
 mod layout;
 mod procedure;
