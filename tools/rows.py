@@ -29,6 +29,8 @@ A file has one of these after its name, and so has `then`; the paths of `from` b
 0 (`files 0 .. 37`: a run for each); tools/failing_calls.c, which is compiled for that and preloaded, has the devices. `room: files 0 .. 9` is how many bytes a file
 may get, a run for each number, and then just so many first bytes of each file of a `then` must be there; `room: log 3` is that of the log. `front = "abc"` is an output of which
 as many first bytes must be there as the number of the call that fails, and `log = "abc"` is a log that ends without its line's end.
+`site d 0 of a.cmm: dead, 11 registers, frame` is where, by the image of these files, each variable of the procedure `d` is at its site 0, in their order. A
+variable that is alive has a place of its own.
 `any: 8 trap *` says one of more answers: with such lines the status and the log are those of one of them, and are the same when it runs again. In words and in the log `$NAME` is the text of a line `text NAME = ..`,
 or the sum of a line `number NAME: end - 28 of a.cmm`, where `end` is the length of the image of these files and `frame.NAME` the frame size of a procedure
 in it. A paragraph without a line of words holds for all later cases of its file. Lines that begin with `#` are comments.
@@ -47,6 +49,8 @@ import shlex
 import subprocess
 import sys
 import tempfile
+
+from image_reading import read_image
 
 TOOLS = os.path.dirname(os.path.abspath(__file__))
 ROWS = os.path.join(os.path.dirname(TOOLS), "rows")
@@ -83,6 +87,7 @@ class Case:
     units: dict = dataclasses.field(default_factory=dict)
     texts: dict = dataclasses.field(default_factory=dict)
     numbers: dict = dataclasses.field(default_factory=dict)
+    sites: list = dataclasses.field(default_factory=list)
 
 
 def bytes_of(text):
@@ -130,6 +135,8 @@ def take(case, line):
         case.cut_log = plain(rest)
     elif key in ("log", "any"):
         (case.log if key == "log" else case.answers).append(plain(rest).decode())
+    elif key == "site":
+        case.sites.append(rest)
     else:
         take_named(case, key, *re.match(r"([^\s:]*)\s*(.*)", rest, re.S).groups())
 
@@ -220,6 +227,18 @@ def frames_of(image):
             number(12)
             skip_each(1, 2)
     return found
+
+
+def fault_of_places(told, places):
+    """What is wrong with the places of the variables at a site, if anything is: `11 registers` stands for as many."""
+    wanted = []
+    for times, kind in re.findall(r"(?:(\d+) )?(dead|register|frame)s?(?:, |$)", told):
+        wanted += [kind] * int(times or 1)
+    found = [place[0] if place else "dead" for place in places]
+    alive = [place for place in places if place]
+    if found != wanted:
+        return f"the variables are {', '.join(found)}, and not {told}"
+    return None if len(set(alive)) == len(alive) else f"two variables have one place: {alive}"
 
 
 @dataclasses.dataclass(frozen=True)
@@ -320,6 +339,19 @@ class Runner:
     def image_of(self, case, names):
         return self.image(*((name, self.contents(case, case.files[name])[0]) for name in names))
 
+    def fault_of_site(self, case, told):
+        """What is wrong with the row of a site, if anything is."""
+        match = re.fullmatch(r"(\S+) (\d+) of ([^:]+): (.+)", told)
+        if not match:
+            raise BadRow(f"no row of a site: {told}")
+        name, number, files, places = match.groups()
+        image = read_image(self.image_of(case, files.split()))
+        for site in image.sites.values():
+            if (site.procedure.name.decode(), site.number) == (name, int(number)):
+                fault = fault_of_places(places, site.locations)
+                return fault and f"at site {number} of {name} {fault}"
+        return f"{name} has no site {number}"
+
     def contents(self, case, told):
         """What a file may have in it: one content, or several where a change says `each` or `first`."""
         if told.startswith("is "):
@@ -329,7 +361,7 @@ class Runner:
                 return [file.read()]
         if not told.startswith(("by ", "image of ")):
             return [plain(told)]
-        made, *changes = told.split(", ")
+        made, *changes = re.split(r",\s+", told)
         found = [self.printed(made[3:])] if made.startswith("by ") else [self.image_of(case, made[len("image of ") :].split())]
         for change in changes:
             found = [it for image in found for it in changed(image, change)]
@@ -494,6 +526,8 @@ def main(program, *paths):
         for case in cases:
             try:
                 texts = runner.texts_of(case)
+                for fault in filter(None, (runner.fault_of_site(case, told) for told in case.sites)):
+                    faults.setdefault(case.place, f"{case.title}: {fault}")
                 for files, then, limits in runner.runs(case):
                     runs[pool.submit(runner.fault_of, case, texts, files, then, limits)] = case
             except (BadRow, KeyError, subprocess.TimeoutExpired) as why:
