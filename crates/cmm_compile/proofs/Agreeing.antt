@@ -1,5 +1,6 @@
 -- An image that is made of a program agrees with it.
-use Rattle.std.proofs.Common.{◌≡◌, ℕ, suc, ◌+◌, ◌*◌, ◌≤◌, ◌&&◌, ◌++◌, max, nat_lt, Bool, false, IsTrue, List, [], ◌∷◌, length, map, refl, ap, sym, ◌∙◌, subst, Some, arith}
+use Rattle.rv_table.specs.Memory.{code_base}
+use Rattle.std.proofs.Common.{◌≡◌, ℕ, suc, ◌+◌, ◌*◌, ◌^◌, ◌≤◌, ◌&&◌, ◌++◌, max, nat_lt, Bool, false, IsTrue, List, [], ◌∷◌, length, map, refl, ap, sym, ◌∙◌, subst, Some, arith}
 use Rattle.std.proofs.lemmas.Bool.{and_from, and_parts}
 use Rattle.std.proofs.lemmas.Bool.Decides.{nat_tests}
 use Rattle.std.proofs.lemmas.List.{length-map}
@@ -173,6 +174,7 @@ module _ (promises : Promises) (p : Program) (graphs : List Graph) (found : List
           let most = made.range.data_size in
           let same : length i.initial ≡ length (data_bytes p (placement_of i)) = ap (λ (l : List ℕ). length l) initial in
           omega (arith, end, most, same);
+      code = let size = code_size in subst (λ (code : List ℕ). code_base + length code ≤ 2 ^ 32) (sym made.image.code) (omega (arith, size));
     }
 
     runs : RunsProgram s graphs found t l

@@ -1,5 +1,6 @@
 -- A worked row: what is required of code holds of a program with a call.
 --     main() { f(); return (7); }    f() { return (); }
+use Rattle.cmm_select.specs.Switches.{EndsLow}
 use Rattle.std.proofs.Common.{◌≡◌, inl, inr, ℕ, zero, suc, ◌*◌, ◌%◌, ◌<◌, ◌^◌, refl, sym, ◌∙◌, ap, subst, arith, Bool, true, false, List, [], ◌∷◌, length, Option, Some, None, slice_get}
 use Rattle.std.specs.Prelude.{◌==◌}
 use Rattle.std.proofs.Math.Bool.{cond}
@@ -301,15 +302,16 @@ module _ (l : Launch) (at : ℕ → ℕ) (main callee site behind limit : Label)
         by false is true also e = of_callee (grind (arith, nat_tests, also)) (cc)
         by false is false also e = absurd (cc)
 
-    call_is_code : l.stack_size ≡ 4096 → l.image.initial ≡ [] → pieces.starts.back % 4 ≡ 0 → pieces.starts.back < 2 ^ 64 →
+    call_is_code : l.stack_size ≡ 4096 → l.image.initial ≡ [] → EndsLow (map_of l) → pieces.starts.back % 4 ≡ 0 → pieces.starts.back < 2 ^ 64 →
         IsCode call-setting calls-once l finished
-    call_is_code stack none aligned fits = record {
+    call_is_code stack none low aligned fits = record {
       is_for = record {
         set = record { placed = record { rows = refl; ascending = refl }; aligned = refl };
         lies = record { low = omega arith; high = omega (arith, stack); narrow = omega arith; aligned = refl };
         small = omega arith;
         data_length = ap (λ (xs : List ℕ). length xs) none;
         region = omega (arith, ap (λ (xs : List ℕ). length xs) none);
+        code = low;
       };
       coded = coded;
       valid = valid;

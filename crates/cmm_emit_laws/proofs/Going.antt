@@ -170,5 +170,5 @@ module _ (s : Setting) (c : Compiled) (l : Launch) (f : Finished) (rest : â„• â†
           IsDone s c l f rest at cost t after
       by (Ok x) is_x e =
           let found = operand_is s c l f rest is_for at t body.activation body.older body.youngest places stands.shown value code.operand x code.is_value is_x in
-          by_arm x found.0 (code.switches.goes.go t stands.sound stands.pc found.1) (slice_get arms (arm_way arms x)) refl (place_is e)
+          by_arm x found.0 ((code.switches.goes is_for.code).go t stands.sound stands.pc found.1) (slice_get arms (arm_way arms x)) refl (place_is e)
       by (Err error) is_x e = absurd (cc)

@@ -39,6 +39,7 @@ is_for = record {
   small = omega arith;
   data_length = refl;
   region = omega arith;
+  code = omega arith;
 }
 
 begins : Begins symbols small first

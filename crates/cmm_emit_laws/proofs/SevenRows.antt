@@ -1,5 +1,6 @@
 -- A worked row: what is required of code holds of a small program, so the simulation says something.
 --     main() { return (7); }
+use Rattle.cmm_select.specs.Switches.{EndsLow}
 use Rattle.std.specs.Prelude.{◌==◌, None, Option}
 use Rattle.std.proofs.lemmas.Bool.Decides.{nat_tests}
 use Rattle.cmm_program.specs.Frames.{place_row}
@@ -168,15 +169,16 @@ module _ (l : Launch) (at : ℕ → ℕ) (main limit : Label) (to : ℕ) (pieces
           (at_zero m node ∙ main_is ∙ same, subst (λ (z : ℕ). z % 4 ≡ 0) same refl)
       by false is e = absurd (cc)
 
-  seven_is_code : l.stack_size ≡ 4096 → at main.number ≡ main_code → l.image.initial ≡ [] → pieces.starts.back % 4 ≡ 0 → pieces.starts.back < 2 ^ 64 →
+  seven_is_code : l.stack_size ≡ 4096 → at main.number ≡ main_code → l.image.initial ≡ [] → EndsLow (map_of l) → pieces.starts.back % 4 ≡ 0 → pieces.starts.back < 2 ^ 64 →
       IsCode seven-setting seven l finished
-  seven_is_code stack main_is none aligned fits = record {
+  seven_is_code stack main_is none low aligned fits = record {
     is_for = record {
       set = record { placed = record { rows = refl; ascending = refl }; aligned = refl };
       lies = record { low = omega arith; high = omega (arith, stack); narrow = omega arith; aligned = refl };
       small = omega arith;
       data_length = ap (λ (xs : List ℕ). length xs) none;
       region = omega (arith, ap (λ (xs : List ℕ). length xs) none);
+      code = low;
     };
     coded = coded;
     valid = valid;

@@ -1,4 +1,5 @@
 -- Which states of the machine represent a located state, but for where control is.
+use Rattle.cmm_select.specs.Switches.{EndsLow}
 use Rattle.std.specs.Prelude.{◌≡◌, ◌⊎◌, ℕ, suc, ◌+◌, ◌-◌, replicate, slice_get, slice_index_or, Some, None, ◌%◌, ◌^◌, ◌<◌, ◌≤◌, true, List, [], ◌∷◌, length}
 use Rattle.std.specs.List.{list_all}
 use Rattle.cmm_abi.specs.declared.registers.TheConstants.{FRAME, REGION, RETURN_ADDRESS, ZERO}
@@ -31,6 +32,7 @@ pub record IsFor (s : Setting) (m : MemoryMap) : Type 0 where
   pub small : stack_top s < 2 ^ 31
   pub data_length : m.data_length ≡ length (data_bytes s.program s.placement)
   pub region : data_base + m.data_length ≤ (stack_region s).address
+  pub code : EndsLow m
 
 -- Registers have the address of the youngest frame, that of the region, and the return address where it is known.
 pub record RepresentsHoldings (y : Symbols) (r : Region) (h : Holdings) (registers : ℕ → ℕ) : Type 0 where

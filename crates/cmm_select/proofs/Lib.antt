@@ -28,6 +28,8 @@ mod Loading
 mod Turning
 mod Asking
 mod Ranging
+mod Waiting
+mod Tabled
 mod Short
 mod Gathering
 mod Rows

@@ -1,5 +1,5 @@
 -- A value is in a range, in one of some ranges, or an arm is for it.
-use Rattle.std.proofs.Math.Bool.{or-false}
+use Rattle.std.proofs.Math.Bool.{or-false, or_assoc}
 use Rattle.std.proofs.Common.{◌≡◌, ℕ, ◌+◌, ◌-◌, ◌*◌, ◌<◌, ◌≤◌, ◌^◌, ◌⊎◌, inl, inr, suc, refl, sym, ◌∙◌, ap, subst, arith, List, [], ◌∷◌, ◌++◌, length, take, get_or, true, false, pos, ◌-ℤ◌}
 use Rattle.std.specs.Prelude.{◌||◌, ◌&&◌, ◌==◌, Bool, not, nat_le, nat_lt}
 use Rattle.std.proofs.Math.Seq.{take-suc}
@@ -24,10 +24,10 @@ use Rattle.cmm_select.proofs.Keeping.{brings_keeps}
 use Rattle.cmm_select.proofs.Places.{One, same_set, set_as}
 use Rattle.cmm_select.proofs.SmallNumbers.{negative_small}
 use Rattle.cmm_select.specs.Operands.{Brings, BringsOperand, most_for, operand_at}
-use Rattle.cmm_select.specs.Switches.{GoesInArms, GoesInRanges, KeepsFirst, Switches, arm_address, label_of, ranges_in}
+use Rattle.cmm_select.specs.Switches.{EndsLow, GoesInArms, GoesInRanges, KeepsFirst, Switches, arm_address, label_of, ranges_in}
 use Rattle.cmm_select.specs.declared.operand.Operand.{Operand}
 
-keeps_first_then : (s t u : State) → KeepsFirst s t → KeepsFirst t u → KeepsFirst s u
+pub keeps_first_then : (s t u : State) → KeepsFirst s t → KeepsFirst t u → KeepsFirst s u
 keeps_first_then s t u one two = record { first = two.first ∙ one.first; keeps = keeps_then s t u one.keeps two.keeps }
 
 -- ---- one range
@@ -51,7 +51,7 @@ in_range f t v order fits small =
     either f v = grind arith
 
 -- one number
-alone : (f t v : ℕ) → f ≡ t → (v == f) ≡ ((nat_le f v && nat_le v t) || false)
+pub alone : (f t v : ℕ) → f ≡ t → (v == f) ≡ ((nat_le f v && nat_le v t) || false)
 alone f t v same = grind (arith, nat_tests) ∙ sym (or-false (nat_le f v && nat_le v t))
 
 -- a range that falls has no value
@@ -155,29 +155,36 @@ in_more v [] r = refl
 in_more v (q ∷ rs) r =
     ap (λ (b : Bool). (nat_le q.from v && nat_le v q.to) || b) (in_more v rs r)
     ∙ sym (or_assoc (nat_le q.from v && nat_le v q.to) (is_in_ranges v rs) (is_in_ranges v (r ∷ [])))
-  where
-    or_assoc : (a b c : Bool) → ((a || b) || c) ≡ (a || (b || c))
-    or_assoc true b c = refl
-    or_assoc false b c = refl
 
-way_split : (a b : Bool) (n first rest on : ℕ) → first ≡ way b rest on → way a n first ≡ way (a || b) (way a n rest) on
+pub way_split : (a b : Bool) (n first rest on : ℕ) → first ≡ way b rest on → way a n first ≡ way (a || b) (way a n rest) on
 way_split true b n first rest on is = refl
 way_split false b n first rest on is = is
 
 -- the elements up to one, and that
-up_to : {A : Type 0} (xs : List A) (i : ℕ) (d : A) → i < length xs → take (i + 1) xs ≡ take i xs ++ get_or xs i d ∷ []
+pub up_to : {A : Type 0} (xs : List A) (i : ℕ) (d : A) → i < length xs → take (i + 1) xs ≡ take i xs ++ get_or xs i d ∷ []
 up_to xs i d within = let e : i + 1 ≡ suc i = omega arith in rw (e, take-suc xs i d within) refl
 
-ranges_more : (arms : List Arm) (arm : Arm) → ranges_in (arms ++ arm ∷ []) ≡ ranges_in arms + length arm.ranges
+pub ranges_more : (arms : List Arm) (arm : Arm) → ranges_in (arms ++ arm ∷ []) ≡ ranges_in arms + length arm.ranges
 ranges_more [] arm = omega arith
 ranges_more (a ∷ arms) arm = let e = ranges_more arms arm in omega (arith, e)
 
-pub next_count : (i : ℕ) (arms : List Arm) (arm : Arm) → i < length arms → arm ≡ get_or arms i arm →
-    20 * ranges_in (take (i + 1) arms) ≡ 20 * ranges_in (take i arms) + 20 * length arm.ranges
-next_count i arms arm within item =
-    let e : take (i + 1) arms ≡ take i arms ++ arm ∷ [] = up_to arms i arm within ∙ ap (λ (a : Arm). take i arms ++ a ∷ []) (sym item) in
-    let g = ranges_more (take i arms) arm in
-    ap (λ (qs : List Arm). 20 * ranges_in qs) e ∙ omega (arith, g)
+module _ (at : ℕ → ℕ) (labels : List Label) where
+  -- some arm is for a value
+  abbrev pub any_arm : List Arm → ℕ → Bool
+  any_arm [] v = false
+  any_arm (arm ∷ arms) v = is_in_ranges v arm.ranges || any_arm arms v
+
+  -- where no arm is for the value, control goes on
+  pub address_split : (arms : List Arm) (v on : ℕ) → arm_address at labels arms v on ≡ way (any_arm arms v) (arm_address at labels arms v 0) on
+  address_split [] v on = refl
+  address_split (arm ∷ arms) v on =
+      way_split (is_in_ranges v arm.ranges) (any_arm arms v) (at (label_of labels arm.to).number) (arm_address at labels arms v on) (arm_address at labels arms v 0) on
+      (address_split arms v on)
+
+  pub address_more : (arms : List Arm) (arm : Arm) (v on : ℕ) → arm_address at labels (arms ++ arm ∷ []) v on
+      ≡ arm_address at labels arms v (way (is_in_ranges v arm.ranges) (at (label_of labels arm.to).number) on)
+  address_more [] arm v on = refl
+  address_more (a ∷ arms) arm v on = ap (way (is_in_ranges v a.ranges) (at (label_of labels a.to).number)) (address_more arms arm v on)
 
 module _ (x : Code) where
   pub no_ranges : (from on : ℕ) (l : Label) → from ≡ on → GoesInRanges 0 [] l x from on
@@ -206,62 +213,44 @@ module _ (x : Code) where
   -- ---- arms
 
   module _ (labels : List Label) where
-    -- some arm is for a value
-    abbrev any_arm : List Arm → ℕ → Bool
-    any_arm [] v = false
-    any_arm (arm ∷ arms) v = is_in_ranges v arm.ranges || any_arm arms v
-
-    -- where no arm is for the value, control goes on
-    address_split : (arms : List Arm) (v on : ℕ) → arm_address x.at labels arms v on ≡ way (any_arm arms v) (arm_address x.at labels arms v 0) on
-    address_split [] v on = refl
-    address_split (arm ∷ arms) v on =
-        way_split (is_in_ranges v arm.ranges) (any_arm arms v) (x.at (label_of labels arm.to).number) (arm_address x.at labels arms v on) (arm_address x.at labels arms v 0) on
-        (address_split arms v on)
-
-    address_more : (arms : List Arm) (arm : Arm) (v on : ℕ) → arm_address x.at labels (arms ++ arm ∷ []) v on
-        ≡ arm_address x.at labels arms v (way (is_in_ranges v arm.ranges) (x.at (label_of labels arm.to).number) on)
-    address_more [] arm v on = refl
-    address_more (a ∷ arms) arm v on = ap (way (is_in_ranges v a.ranges) (x.at (label_of labels a.to).number)) (address_more arms arm v on)
-
     pub no_arms : (from on : ℕ) → from ≡ on → GoesInArms 0 labels [] x from on
-    no_arms from on is = goes_none is (λ s. record { first = refl; keeps = keeps_same s })
+    no_arms from on is = λ low. goes_none is (λ s. record { first = refl; keeps = keeps_same s })
+
+    -- arms are gone through, and then some other way, which the value in register 5 tells
+    pub arms_then : (from mid on most n : ℕ) (arms : List Arm) (other : ℕ → ℕ) → EndsLow x.map → GoesInArms most labels arms x from mid →
+        Goes 0 n Always (λ s. other (s.registers 5)) KeepsFirst x mid → Goes 0 (most + n) Always (λ s. arm_address x.at labels arms (s.registers 5) (other (s.registers 5))) KeepsFirst x from
+    arms_then from mid on most n arms other low first second =
+        goes_weaker
+        (goes_choice mid (λ s. any_arm x.at labels arms (s.registers 5)) (λ s. arm_address x.at labels arms (s.registers 5) 0) (λ s. other (s.registers 5)) keeps_first_then
+        (λ s t keeps. ap other keeps.first)
+        (goes_weaker {k = 0} {b = most} (first low) (omega arith) (omega arith) (λ s. way (any_arm x.at labels arms (s.registers 5)) (arm_address x.at labels arms (s.registers 5) 0) mid)
+        (λ s sound. address_split x.at labels arms (s.registers 5) mid) (λ s t keeps. keeps))
+        second)
+        (omega arith) (omega arith)
+        (λ s. arm_address x.at labels arms (s.registers 5) (other (s.registers 5)))
+        (λ s sound. sym (address_split x.at labels arms (s.registers 5) (other (s.registers 5))))
+        (λ s t keeps. keeps)
 
     pub more_arms : (from on most n : ℕ) (arms : List Arm) (arm : Arm) (l : Label) → label_of labels arm.to ≡ l →
         Then (GoesInArms most labels arms) (GoesInRanges n arm.ranges l) x from on → GoesInArms (most + n) labels (arms ++ arm ∷ []) x from on
-    more_arms from on most n arms arm l is does =
-        goes_weaker
-        (goes_choice does.0 (λ s. any_arm arms (s.registers 5)) (λ s. arm_address x.at labels arms (s.registers 5) 0)
-        (λ s. way (is_in_ranges (s.registers 5) arm.ranges) (x.at l.number) on) keeps_first_then
-        (λ s t keeps. ap (λ (v : ℕ). way (is_in_ranges v arm.ranges) (x.at l.number) on) keeps.first)
-        (goes_weaker {k = 0} {b = most} does.1 (omega arith) (omega arith) (λ s. way (any_arm arms (s.registers 5)) (arm_address x.at labels arms (s.registers 5) 0) does.0)
-        (λ s sound. address_split arms (s.registers 5) does.0) (λ s t keeps. keeps))
-        does.2)
-        (omega arith) (omega arith)
+    more_arms from on most n arms arm l is does = λ low.
+        goes_weaker (arms_then from does.0 on most n arms (λ v. way (is_in_ranges v arm.ranges) (x.at l.number) on) low does.1 does.2) (omega arith) (omega arith)
         (λ s. arm_address x.at labels (arms ++ arm ∷ []) (s.registers 5) on)
         (λ s sound.
-        sym (address_split arms (s.registers 5) (way (is_in_ranges (s.registers 5) arm.ranges) (x.at l.number) on))
-        ∙ ap (λ (k : Label). arm_address x.at labels arms (s.registers 5) (way (is_in_ranges (s.registers 5) arm.ranges) (x.at k.number) on)) (sym is)
-        ∙ sym (address_more arms arm (s.registers 5) on))
+        ap (λ (k : Label). arm_address x.at labels arms (s.registers 5) (way (is_in_ranges (s.registers 5) arm.ranges) (x.at k.number) on)) (sym is)
+        ∙ sym (address_more x.at labels arms arm (s.registers 5) on))
         (λ s t keeps. keeps)
-
-    pub next_arm : (from on i : ℕ) (arms : List Arm) (arm : Arm) (l : Label) → i < length arms → arm ≡ get_or arms i arm → label_of labels arm.to ≡ l →
-        Then (GoesInArms (20 * ranges_in (take i arms)) labels (take i arms)) (GoesInRanges (20 * length arm.ranges) arm.ranges l) x from on →
-        GoesInArms (20 * ranges_in (take (i + 1) arms)) labels (take (i + 1) arms) x from on
-    next_arm from on i arms arm l within item is does =
-        let e : take (i + 1) arms ≡ take i arms ++ arm ∷ [] = up_to arms i arm within ∙ ap (λ (a : Arm). take i arms ++ a ∷ []) (sym item) in
-        let g = ranges_more (take i arms) arm in
-        let f : 20 * ranges_in (take i arms ++ arm ∷ []) ≡ 20 * ranges_in (take i arms) + 20 * length arm.ranges = omega (arith, g) in
-        subst (λ (qs : List Arm). GoesInArms (20 * ranges_in qs) labels qs x from on) (sym e)
-        (subst (λ (n : ℕ). GoesInArms n labels (take i arms ++ arm ∷ []) x from on) (sym f)
-        (more_arms from on (20 * ranges_in (take i arms)) (20 * length arm.ranges) (take i arms) arm l is does))
 
     -- the value is brought, and then the arms are gone through
     pub switches : (arms : List Arm) (a : Operand) (from on : ℕ) → Then (BringsOperand a 5) (GoesInArms (20 * ranges_in arms) labels arms) x from on →
         Switches (most_for a + 20 * ranges_in arms) a labels arms x from on
-    switches arms a from on does =
-        turns_weaker
-        (leads_turns {Q = λ s t. Brings 5 (operand_at x.at a s) s t} does.1 does.2 (λ s t sound also can brings. tt)
-        (λ s. arm_address x.at labels arms (operand_at x.at a s) on)
-        (λ s t can brings. ap (λ (v : ℕ). arm_address x.at labels arms v on) brings.given))
-        (omega arith) (λ s sound can. can)
-        (λ s u can both. keeps_then s both.0 u (brings_keeps 5 (operand_at x.at a s) s both.0 refl both.1) both.2.keeps)
+    switches arms a from on does = record {
+      quiet = does.1.quiet;
+      goes = λ low.
+          (turns_weaker
+          (leads_turns {Q = λ s t. Brings 5 (operand_at x.at a s) s t} does.1 (does.2 low) (λ s t sound also can brings. tt)
+          (λ s. arm_address x.at labels arms (operand_at x.at a s) on)
+          (λ s t can brings. ap (λ (v : ℕ). arm_address x.at labels arms v on) brings.given))
+          (omega arith) (λ s sound can. can)
+          (λ s u can both. keeps_then s both.0 u (brings_keeps 5 (operand_at x.at a s) s both.0 refl both.1) both.2.keeps)).goes;
+    }

@@ -1,5 +1,5 @@
 -- Which way switches go (C-- Language Specification 2.0, the switch statement).
-use Rattle.std.specs.Prelude.{◌≡◌, ℕ, ◌+◌, List, [], ◌∷◌, length, slice_index_or}
+use Rattle.std.specs.Prelude.{◌≡◌, ℕ, ◌+◌, ◌≤◌, ◌^◌, List, [], ◌∷◌, length, slice_index_or}
 use Rattle.cmm_abi.specs.declared.registers.TheConstants.{FIRST_SCRATCH}
 use Rattle.cmm_graph.specs.declared.node.Arm.{Arm}
 use Rattle.cmm_graph.specs.declared.number.NodeId.{NodeId}
@@ -7,10 +7,10 @@ use Rattle.cmm_program.specs.Bodies.{is_in_ranges}
 use Rattle.cmm_program.specs.declared.statement.Range.{Range}
 use Rattle.rv_asm.specs.Parts.{Code, way}
 use Rattle.rv_asm.specs.declared.part.Label.{Label}
-use Rattle.rv_table.specs.Machine.{State}
+use Rattle.rv_table.specs.Machine.{MemoryMap, State, code_base}
 use Rattle.cmm_effects.specs.Changes.{Keeps}
-use Rattle.cmm_effects.specs.Pieces.{Always}
-use Rattle.cmm_effects.specs.Ways.{Goes, Turns}
+use Rattle.cmm_effects.specs.Pieces.{Always, BeginsQuietly}
+use Rattle.cmm_effects.specs.Ways.{Goes}
 use Rattle.cmm_select.specs.Operands.{CanBringOperand, operand_at}
 use Rattle.cmm_select.specs.declared.operand.Operand.{Operand}
 
@@ -37,10 +37,15 @@ abbrev pub arm_address : (ℕ → ℕ) → List Label → List Arm → ℕ → �
 arm_address at labels [] value on = on
 arm_address at labels (arm ∷ arms) value on = way (is_in_ranges value arm.ranges) (at (label_of labels arm.to).number) (arm_address at labels arms value on)
 
-abbrev pub GoesInArms : ℕ → List Label → List Arm → Code → ℕ → ℕ → Type 0
-GoesInArms most labels arms x from on = Goes 0 most Always (λ s. arm_address x.at labels arms (s.registers FIRST_SCRATCH) on) KeepsFirst x from
+-- the code ends below 2^32, so that sums of its addresses with small numbers are what they are as whole numbers
+abbrev pub EndsLow : MemoryMap → Type 0
+EndsLow m = code_base + length m.code ≤ 2 ^ 32
 
--- control goes where an arm leads that is for an operand, and on where there is none; nothing is changed but scratch registers
-abbrev pub Switches : ℕ → Operand → List Label → List Arm → Code → ℕ → ℕ → Type 0
-Switches most a labels arms x from on =
-    Turns most (CanBringOperand a) (λ s. arm_address x.at labels arms (operand_at x.at a s) on) Keeps x from
+abbrev pub GoesInArms : ℕ → List Label → List Arm → Code → ℕ → ℕ → Type 0
+GoesInArms most labels arms x from on = EndsLow x.map → Goes 0 most Always (λ s. arm_address x.at labels arms (s.registers FIRST_SCRATCH) on) KeepsFirst x from
+
+-- Control goes where an arm leads that is for an operand, and on where there is none; nothing is changed but scratch registers. Of all code the first
+-- instruction asks for nothing but input, and in code that ends low control goes so.
+pub record Switches (most : ℕ) (a : Operand) (labels : List Label) (arms : List Arm) (x : Code) (from on : ℕ) : Type 0 where
+  pub quiet : BeginsQuietly x from
+  pub goes : EndsLow x.map → Goes 1 most (CanBringOperand a) (λ s. arm_address x.at labels arms (operand_at x.at a s) on) Keeps x from

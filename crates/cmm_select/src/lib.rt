@@ -29,7 +29,7 @@
 //! - `assigning`: a destination gets an operand, a global register, or what an operator, a conversion or a comparison gives on operands.
 //! - `memory`: a destination gets a word of memory; an operand is stored.
 //! - `going`: control goes by a comparison of operands, to a label, on, or to its end.
-//! - `switching`: control goes by the arms of a switch.
+//! - `switching`: control goes by the arms of a switch. `number_run`: numbers that follow one another. `jump_table`: a table of jumps for them.
 //! - `host`: a request is chosen, and bytes are put and taken.
 //!
 //! - `laws`: how short the code of two operands is, and where switches lead.
@@ -44,9 +44,11 @@ mod going;
 mod host;
 mod immediates;
 mod in_place;
+mod jump_table;
 pub mod laws;
 mod memory;
 mod number;
+mod number_run;
 mod operand;
 mod operator;
 mod place;

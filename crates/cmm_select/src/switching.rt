@@ -1,16 +1,19 @@
-//! Switches: a chain of branches, one a range.
+//! Switches: a table of jumps for numbers that follow one another, and a branch for each other range.
 
-ghost use Rattle.std.specs.Prelude.{◌≡◌, ◌+◌, ◌*◌, ◌<◌, ◌∷◌, [], length, OnOk};
+ghost use Rattle.std.specs.Prelude.{◌≡◌, ◌+◌, ◌*◌, ◌<◌, ◌≤◌, ◌^◌, ◌++◌, ◌∷◌, [], List, length, IfSome, OnOk};
 ghost use Rattle.std.specs.List.{All};
 ghost use Rattle.rv_asm.specs.Assembly.{IsInner};
 ghost use Rattle.rv_table.specs.Words.{difference};
 ghost use Rattle.cmm_effects.specs.Changes.{Sets};
 ghost use Rattle.cmm_effects.specs.Pieces.{Adds, Always, Leads};
 ghost use Rattle.cmm_select.specs.Operands.{IsOperand, most_for};
-ghost use Rattle.cmm_select.specs.Switches.{GoesInArms, GoesInRanges, Switches, ranges_in};
+ghost use Rattle.rv_asm.specs.declared.part.Part.{Part};
+ghost use Rattle.cmm_select.specs.Switches.{GoesInArms, GoesInRanges, Switches, label_of, ranges_in};
+ghost use Rattle.cmm_select.specs.inside.NumberRuns.{GoesButWaiting};
 
 use crate::immediates::instruction;
 use crate::number::load_constant;
+use crate::number_run::NumberRun;
 use crate::operand::{Operand, bring_operand};
 use crate::word::NEAR;
 use cmm_abi::registers::{FIRST_SCRATCH, HELPER, SECOND_SCRATCH};
@@ -46,10 +49,53 @@ fn branch_in_arms(asm: &mut Asm, arms: &[Arm], labels: &[Label]) -> Result<(), A
     ensures goes { OnOk result (Adds (20 * ranges_in arms.now) asm.old.parts asm.new.parts (GoesInArms (20 * ranges_in arms.now) labels.now arms.now)) }
     ensures labels { asm.new.labels ≡ asm.old.labels }
 {
+    let mut waiting = NumberRun::from(asm.alloc(), 0);
     for arm in arms {
-        branch_in_ranges(asm, arm.ranges.as_slice(), labels[arm.to.number as usize])?;
+        branch_in_arm(asm, &mut waiting, arm, labels[arm.to.number as usize])?;
     }
+    waiting.put(asm)?;
     Ok(())
+}
+
+/// Goes to a label where an arm is for the value in register 5; where it is for one number alone, that may wait for numbers that follow.
+fn branch_in_arm(
+    asm: &mut Asm,
+    waiting: &mut NumberRun,
+    arm: &Arm,
+    to: Label,
+) -> Result<(), AllocError>
+    requires room { waiting.old.first + length waiting.old.labels.items ≤ 2 ^ 64 }
+    requires waiting { All (IsInner asm.old.labels) waiting.old.labels.items }
+    requires inner { IsInner asm.old.labels to }
+    ensures goes { OnOk result ((old : List Part) (labels : List Label) (arms : List Arm) → label_of labels arm.now.to ≡ to →
+        GoesButWaiting old labels arms waiting.old.first waiting.old.labels.items asm.old.parts →
+        GoesButWaiting old labels (arms ++ arm.now ∷ []) waiting.new.first waiting.new.labels.items asm.new.parts) }
+    ensures room { OnOk result (waiting.new.first + length waiting.new.labels.items ≤ 2 ^ 64) }
+    ensures waiting { OnOk result (All (IsInner asm.new.labels) waiting.new.labels.items) }
+    ensures labels { asm.new.labels ≡ asm.old.labels }
+{
+    let Some(number) = only_number(arm.ranges.as_slice()) else {
+        waiting.put(asm)?;
+        *waiting = NumberRun::from(asm.alloc(), 0);
+        branch_in_ranges(asm, arm.ranges.as_slice(), to)?;
+        return Ok(());
+    };
+    if !waiting.goes_on_with(number) {
+        waiting.put(asm)?;
+        *waiting = NumberRun::from(asm.alloc(), number);
+    }
+    waiting.labels.push(to)?;
+    Ok(())
+}
+
+/// The number of ranges that have only one.
+fn only_number(ranges: &[Range]) -> Option<u64>
+    ensures { IfSome result (λ n. ranges.now ≡ record { from = n; to = n } ∷ []) }
+{
+    match ranges {
+        [range] if range.from == range.to => Some(range.from),
+        _ => None,
+    }
 }
 
 /// Goes to a label where the value in register 5 is in one of some ranges.
@@ -66,7 +112,12 @@ fn branch_in_ranges(asm: &mut Asm, ranges: &[Range], to: Label) -> Result<(), Al
 
 /// Goes to a label where the value in register 5 is in a range: where it is the one number of it, or above the first number by no more than the
 /// last one is.
-fn branch_between(asm: &mut Asm, first: u64, last: u64, to: Label) -> Result<(), AllocError>
+pub(crate) fn branch_between(
+    asm: &mut Asm,
+    first: u64,
+    last: u64,
+    to: Label,
+) -> Result<(), AllocError>
     requires { IsInner asm.old.labels to }
     ensures goes { OnOk result (Adds 20 asm.old.parts asm.new.parts (GoesInRanges 20 (record { from = first; to = last } ∷ []) to)) }
     ensures labels { asm.new.labels ≡ asm.old.labels }
@@ -86,7 +137,7 @@ fn branch_between(asm: &mut Asm, first: u64, last: u64, to: Label) -> Result<(),
 }
 
 /// Gives register 7 the difference of the value in register 5 and a number.
-fn measure(asm: &mut Asm, first: u64) -> Result<(), AllocError>
+pub(crate) fn measure(asm: &mut Asm, first: u64) -> Result<(), AllocError>
     ensures measures { OnOk result (Adds 9 asm.old.parts asm.new.parts (Leads 9 Always (λ s t. Sets SECOND_SCRATCH (difference (s.registers FIRST_SCRATCH) first) s t))) }
     ensures labels { asm.new.labels ≡ asm.old.labels }
 {

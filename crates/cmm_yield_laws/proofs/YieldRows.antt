@@ -1,5 +1,6 @@
 -- A worked row: what is required of whole code, with its tables, holds of a program with a yield, and its stack is walked where it waits.
 --     main() { yield(7); return (7); }
+use Rattle.cmm_select.specs.Switches.{EndsLow}
 use Rattle.std.proofs.Common.{◌≡◌, inr, ℕ, zero, suc, ◌+◌, ◌*◌, ◌%◌, ◌<◌, ◌≤◌, ◌^◌, refl, sym, ◌∙◌, ap, subst, arith, Bool, true, false, List, [], ◌∷◌, length, Option, Some, None, slice_get}
 use Rattle.std.specs.Prelude.{◌==◌, ◌&&◌, codes, find, nat_lt}
 use Rattle.std.proofs.Math.Bool.{cond}
@@ -334,7 +335,7 @@ module _ (l : Launch) (at : ℕ → ℕ) (main client site behind limit : Label)
             (ap (λ (z : NodeId). node_in z.number) (sym node) ∙ main_is ∙ same, subst (λ (z : ℕ). z % 4 ≡ 0) same refl)
         by false is e = absurd (cc)
 
-    module _ (stack : l.stack_size ≡ 4096) (no_data : l.image.initial ≡ []) (aligned : pieces.starts.back % 4 ≡ 0) (fits : pieces.starts.back < 2 ^ 64) where
+    module _ (stack : l.stack_size ≡ 4096) (no_data : l.image.initial ≡ []) (low : EndsLow (map_of l)) (aligned : pieces.starts.back % 4 ≡ 0) (fits : pieces.starts.back < 2 ^ 64) where
       around : IsCodeAround yield-setting yields l finished
       around = record {
         is_for = record {
@@ -343,6 +344,7 @@ module _ (l : Launch) (at : ℕ → ℕ) (main client site behind limit : Label)
           small = omega arith;
           data_length = ap (λ (xs : List ℕ). length xs) no_data;
           region = omega (arith, ap (λ (xs : List ℕ). length xs) no_data);
+          code = low;
         };
         valid = valid;
         named = named;

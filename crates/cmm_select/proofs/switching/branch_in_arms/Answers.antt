@@ -1,18 +1,21 @@
-use Rattle.std.proofs.Common.{◌∙◌, refl, arith}
-use Rattle.cmm_effects.proofs.Shared.{adds_then, adds_weaker}
-use Rattle.cmm_select.proofs.Ranging.{next_arm, next_count}
-use Rattle.cmm_select.specs.Switches.{label_of}
+use Rattle.std.proofs.Common.{◌≡◌, List, refl, subst, take, arith}
+use Rattle.std.proofs.lemmas.List.{take_all}
+use Rattle.cmm_graph.specs.declared.node.Arm.{Arm}
+use Rattle.cmm_select.proofs.Waiting.{all_put, none_waiting}
+use Rattle.cmm_select.specs.inside.NumberRuns.{GoesButWaiting}
 use Rattle.cmm_select.proofs.switching.branch_in_arms.Goals as goal
 
-pub loop-arm-preserved : goal.loop-arm-preserved
-loop-arm-preserved c =
-    let i = c.loop-arm.arm-index in
-    let arm = c.arm-item.result in
+pub loop-arm-init : goal.loop-arm-init
+loop-arm-init c =
+    rw (c.from-waiting.ensures.first, c.from-waiting.ensures.labels)
+    (none_waiting c.args.asm.now.parts c.args.labels.now 0, omega arith, (λ k d h. absurd (omega (arith, h))), refl)
+
+pub returns-clause-goes : goal.returns-clause-goes
+returns-clause-goes c =
     let arms = c.args.arms.now in
     let labels = c.args.labels.now in
-    let count = next_count i arms arm c.loop-arm-test.true c.arm-item.is in
-    let goes = rw c.as_slice.ensures at c.in_ok-branch_in_ranges.ensures.goes in (
-      adds_weaker (adds_then c.loop-arm.invariant.0 goes) (omega (arith, count))
-          (λ x from on does. next_arm x labels from on i arms arm (label_of labels arm.to) c.loop-arm-test.true c.arm-item.is refl does),
-      c.in_ok-branch_in_ranges.ensures.labels ∙ c.loop-arm.invariant.1,
-    )
+    let waiting = c.loop-arm.waiting in
+    let all : take c.loop-arm.arm-index arms ≡ arms = take_all c.loop-arm.arm-index arms (let past = c.loop-arm-test.false in omega (arith, past)) in
+    let goes : GoesButWaiting c.args.asm.now.parts labels arms waiting.first waiting.labels.items c.loop-arm.asm.parts =
+    subst (λ (some : List Arm). GoesButWaiting c.args.asm.now.parts labels some waiting.first waiting.labels.items c.loop-arm.asm.parts) all c.loop-arm.invariant.0 in
+    all_put c.args.asm.now.parts labels arms waiting.first waiting.labels.items c.loop-arm.asm.parts goes c.put.new.asm.parts c.in_ok-put.ensures.goes

@@ -1,11 +1,14 @@
-use Rattle.std.proofs.Common.{◌≡◌, ◌*◌, take}
-use Rattle.cmm_effects.specs.Pieces.{Adds}
-use Rattle.cmm_select.specs.Switches.{GoesInArms, ranges_in}
+use Rattle.std.specs.Prelude.{◌≡◌, ◌+◌, ◌≤◌, ◌^◌, length}
+use Rattle.std.proofs.Common.{take}
+use Rattle.std.specs.List.{All}
+use Rattle.rv_asm.specs.Assembly.{IsInner}
+use Rattle.cmm_select.specs.inside.NumberRuns.{GoesButWaiting}
 use Rattle.cmm_select.proofs.switching.branch_in_arms.Given as goal
 
--- the arms so far
+-- the arms so far, of which the last may wait
 abbrev pub invariant-loop-arm : goal.invariant-loop-arm
 invariant-loop-arm l =
-    Adds (20 * ranges_in (take l.arm-index l.arms)) l.initial.asm.parts l.asm.parts
-    (GoesInArms (20 * ranges_in (take l.arm-index l.arms)) l.labels (take l.arm-index l.arms))
+    GoesButWaiting l.initial.asm.parts l.labels (take l.arm-index l.arms) l.waiting.first l.waiting.labels.items l.asm.parts
+    × (l.waiting.first + length l.waiting.labels.items ≤ 2 ^ 64)
+    × All (IsInner l.asm.labels) l.waiting.labels.items
     × (l.asm.labels ≡ l.initial.asm.labels)
