@@ -1,0 +1,2 @@
+mod JoinedRows
+mod TextRows
