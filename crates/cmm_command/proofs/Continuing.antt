@@ -5,7 +5,7 @@ use Rattle.clap.specs.declared.parser.matches.ArgMatches.{ArgMatches}
 use Rattle.cmm_command.specs.declared.command.RunLimits.{RunLimits}
 use Rattle.cmm_command.specs.Numbers.{stack_of}
 use Rattle.cmm_command.specs.Reading.{◌>>=◌, file_if_given, file_of, limits_of, read_or}
-use Rattle.cmm_command.specs.Meaning.{Meaning, build, exec, generate, run, walk}
+use Rattle.cmm_command.specs.Meaning.{Meaning, build, elf, exec, generate, run, segments, walk}
 
 abbrev pub rows : ArgMatches → List Row
 rows m = rows_of (found_of m)
@@ -61,3 +61,14 @@ walk_image rs image = file_of (codes "snapshot") rs >>= walk_snapshot image
 
 abbrev pub generate_number : ℕ → Option Meaning
 generate_number number = Some (generate number)
+
+-- ---- `elf` and `segments`
+
+abbrev pub elf_file : Text → Text → Option Meaning
+elf_file image file = Some (elf image file)
+
+abbrev pub elf_image : List Row → Text → Option Meaning
+elf_image rs image = file_of (codes "file") rs >>= elf_file image
+
+abbrev pub segments_file : Text → Option Meaning
+segments_file file = Some (segments file)

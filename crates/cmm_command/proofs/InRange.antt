@@ -12,9 +12,9 @@ use Rattle.cmm_command.specs.declared.first_word.FirstWord.{FirstWord}
 use Rattle.cmm_command.specs.declared.first_word.FirstWord.TheVariants as first
 use Rattle.cmm_command.specs.FirstWords.{first_word_in}
 use Rattle.cmm_command.specs.Laws.{CommandsAreInRange, IsInRange, IsLimited, IsName}
-use Rattle.cmm_command.specs.Meaning.{Meaning, build, build_of, exec, exec_of, generate, generate_of, meaning_by, meaning_of, run, run_of, walk, walk_of}
+use Rattle.cmm_command.specs.Meaning.{Meaning, build, build_of, elf, elf_of, exec, exec_of, generate, generate_of, meaning_by, meaning_of, run, run_of, segments, segments_of, walk, walk_of}
 use Rattle.cmm_command.specs.Numbers.{number_up_to, number_of, stack_of, steps_of}
-use Rattle.cmm_command.specs.Options.{build_app, exec_app, generate_app, run_app, walk_app}
+use Rattle.cmm_command.specs.Options.{build_app, elf_app, exec_app, generate_app, run_app, segments_app, walk_app}
 use Rattle.cmm_command.specs.Reading.{◌>>=◌, file_if_given, file_names, file_of, files_of, file_as_given, file_name, limits_of, number_in, read_or, sorted}
 
 -- what goes on was there
@@ -149,6 +149,19 @@ generate_within rows m is =
     let same : generate a.with_ ≡ m = cc in
     subst IsInRange same (number_within_limit b.with_ a.with_ b.next)
 
+elf_within : (rows : List Row) (m : Meaning) → elf_of rows ≡ Some m → IsInRange m
+elf_within rows m is =
+    let a = went (file_of (codes "image") rows) (λ image. file_of (codes "file") rows >>= λ file. Some (elf image file)) m is in
+    let b = went (file_of (codes "file") rows) (λ file. Some (elf a.with_ file)) m a.next in
+    let same : elf a.with_ b.with_ ≡ m = cc in
+    subst IsInRange same (file_short (codes "image") rows a.with_ a.is, file_short (codes "file") rows b.with_ b.is)
+
+segments_within : (rows : List Row) (m : Meaning) → segments_of rows ≡ Some m → IsInRange m
+segments_within rows m is =
+    let a = went (file_of (codes "file") rows) (λ file. Some (segments file)) m is in
+    let same : segments a.with_ ≡ m = cc in
+    subst IsInRange same (file_short (codes "file") rows a.with_ a.is)
+
 pub commands_are_in_range : CommandsAreInRange
 unfolding meaning_of meaning_by
 commands_are_in_range words m is = let w = went (first_word_in words) (λ word. meaning_by word words) m is in by w.with_ w.next
@@ -159,3 +172,5 @@ commands_are_in_range words m is = let w = went (first_word_in words) (λ word. 
     by first.Exec h = let s = went (sorted exec_app words) exec_of m h in exec_within s.with_ m s.next
     by first.Walk h = let s = went (sorted walk_app words) walk_of m h in walk_within s.with_ m s.next
     by first.Generate h = let s = went (sorted generate_app words) generate_of m h in generate_within s.with_ m s.next
+    by first.Elf h = let s = went (sorted elf_app words) elf_of m h in elf_within s.with_ m s.next
+    by first.Segments h = let s = went (sorted segments_app words) segments_of m h in segments_within s.with_ m s.next

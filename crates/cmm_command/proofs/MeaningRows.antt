@@ -4,12 +4,12 @@ use Rattle.clap.proofs.OnLiterals.{clap_on_literals}
 use Rattle.cmm_command.specs.declared.command.RunLimits.{RunLimits}
 use Rattle.cmm_command.specs.FirstWords.{first_words}
 use Rattle.cmm_command.specs.Numbers.{number_of, stack_of, steps_of}
-use Rattle.cmm_command.specs.Options.{build_app, exec_app, generate_app, run_app, walk_app}
+use Rattle.cmm_command.specs.Options.{build_app, elf_app, exec_app, generate_app, run_app, segments_app, walk_app}
 use Rattle.cmm_command.specs.Reading.{sorted}
-use Rattle.cmm_command.specs.Meaning.{build, exec, generate, meaning_by, meaning_of, run, walk}
+use Rattle.cmm_command.specs.Meaning.{build, elf, exec, generate, meaning_by, meaning_of, run, segments, walk}
 
 unfoldable pub opened : Unit {0}
-unfolding clap_on_literals first_words number_of stack_of steps_of build_app exec_app generate_app run_app walk_app sorted meaning_by meaning_of
+unfolding clap_on_literals first_words number_of stack_of steps_of build_app elf_app exec_app generate_app run_app segments_app walk_app sorted meaning_by meaning_of
 opened = tt
 
 abbrev usual : RunLimits
@@ -67,3 +67,19 @@ nine_digits = refl
 ten_digits : meaning_of (codes "gen" ∷ codes "1000000000" ∷ []) ≡ None
 unfolding opened
 ten_digits = refl
+
+image_before_its_file : meaning_of (codes "elf" ∷ codes "-oy" ∷ codes "x" ∷ []) ≡ Some (elf (codes "x") (codes "y"))
+unfolding opened
+image_before_its_file = refl
+
+no_file : meaning_of (codes "elf" ∷ codes "x" ∷ []) ≡ None
+unfolding opened
+no_file = refl
+
+one_file : meaning_of (codes "segments" ∷ codes "--" ∷ codes "-o" ∷ []) ≡ Some (segments (codes "-o"))
+unfolding opened
+one_file = refl
+
+nothing_is_written : meaning_of (codes "segments" ∷ codes "x" ∷ codes "-o" ∷ codes "y" ∷ []) ≡ None
+unfolding opened
+nothing_is_written = refl

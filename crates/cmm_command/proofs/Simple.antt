@@ -3,7 +3,7 @@ use Rattle.std.proofs.Common.{◌≡◌, sym, subst, true, refl, List, Result}
 use Rattle.clap.specs.Words.{App, Row, Text, is_simple_and_free}
 use Rattle.clap.proofs.OnLiterals.{clap_on_literals}
 use Rattle.cmm_command.specs.declared.fault.CommandFault.{CommandFault}
-use Rattle.cmm_command.specs.Options.{build_app, exec_app, generate_app, run_app, walk_app}
+use Rattle.cmm_command.specs.Options.{build_app, elf_app, exec_app, generate_app, run_app, segments_app, walk_app}
 use Rattle.cmm_command.specs.Reading.{Gives, sorted}
 
 build_is_simple : is_simple_and_free build_app ≡ true
@@ -26,6 +26,14 @@ generate_is_simple : is_simple_and_free generate_app ≡ true
 unfolding clap_on_literals generate_app
 generate_is_simple = refl
 
+elf_is_simple : is_simple_and_free elf_app ≡ true
+unfolding clap_on_literals elf_app
+elf_is_simple = refl
+
+segments_is_simple : is_simple_and_free segments_app ≡ true
+unfolding clap_on_literals segments_app
+segments_is_simple = refl
+
 same : (made app : App) → made ≡ app → is_simple_and_free app ≡ true → is_simple_and_free made ≡ true
 same made app is simple = subst (λ (a : App). is_simple_and_free a ≡ true) (sym is) simple
 
@@ -43,6 +51,12 @@ walk-simple made is = same made walk_app is walk_is_simple
 
 pub generate-simple : (made : App) → made ≡ generate_app → is_simple_and_free made ≡ true
 generate-simple made is = same made generate_app is generate_is_simple
+
+pub elf-simple : (made : App) → made ≡ elf_app → is_simple_and_free made ≡ true
+elf-simple made is = same made elf_app is elf_is_simple
+
+pub segments-simple : (made : App) → made ≡ segments_app → is_simple_and_free made ≡ true
+segments-simple made is = same made segments_app is segments_is_simple
 
 -- what the command that was made sorts is what the one that is meant sorts
 pub sorts : {A : Type 0} (rows : A → List Row) (made app : App) (words : List Text) (r : Result A CommandFault) → made ≡ app → Gives rows (sorted made words) r

@@ -8,7 +8,7 @@ use Rattle.cmm_command.specs.declared.command.RunLimits.{RunLimits}
 use Rattle.cmm_command.specs.declared.first_word.FirstWord.{FirstWord}
 use Rattle.cmm_command.specs.declared.first_word.FirstWord.TheVariants as first
 use Rattle.cmm_command.specs.FirstWords.{first_word_in}
-use Rattle.cmm_command.specs.Options.{build_app, exec_app, generate_app, run_app, walk_app}
+use Rattle.cmm_command.specs.Options.{build_app, elf_app, exec_app, generate_app, run_app, segments_app, walk_app}
 use Rattle.cmm_command.specs.Reading.{◌>>=◌, file_if_given, file_of, files_of, limits_of, number_in, sorted}
 
 -- a command, with the texts that it names
@@ -18,6 +18,8 @@ pub data Meaning : Type 0 where
   exec : List Text → Option Text → RunLimits → Meaning
   walk : Text → Text → Meaning
   generate : ℕ → Meaning
+  elf : Text → Text → Meaning
+  segments : Text → Meaning
 
 abbrev pub plain : Command → Meaning
 plain (command.Build units image) = build (map (λ s. s.now) units) image.now
@@ -25,6 +27,8 @@ plain (command.Run image client limits save) = run image.now (option_map (λ s. 
 plain (command.Exec units client limits) = exec (map (λ s. s.now) units) (option_map (λ s. s.now) client) limits
 plain (command.Walk image snapshot) = walk image.now snapshot.now
 plain (command.Generate number) = generate number
+plain (command.Elf image file) = elf image.now file.now
+plain (command.Segments file) = segments file.now
 
 abbrev pub build_of : List Row → Option Meaning
 build_of rows = files_of (codes "unit") rows >>= λ units. file_of (codes "image") rows >>= λ image. Some (build units image)
@@ -43,12 +47,20 @@ walk_of rows = file_of (codes "image") rows >>= λ image. file_of (codes "snapsh
 abbrev pub generate_of : List Row → Option Meaning
 generate_of rows = number_in rows >>= λ number. Some (generate number)
 
+abbrev pub elf_of : List Row → Option Meaning
+elf_of rows = file_of (codes "image") rows >>= λ image. file_of (codes "file") rows >>= λ file. Some (elf image file)
+
+abbrev pub segments_of : List Row → Option Meaning
+segments_of rows = file_of (codes "file") rows >>= λ file. Some (segments file)
+
 unfoldable pub meaning_by : FirstWord → List Text → Option Meaning
 meaning_by first.Build words = sorted build_app words >>= build_of
 meaning_by first.Run words = sorted run_app words >>= run_of
 meaning_by first.Exec words = sorted exec_app words >>= exec_of
 meaning_by first.Walk words = sorted walk_app words >>= walk_of
 meaning_by first.Generate words = sorted generate_app words >>= generate_of
+meaning_by first.Elf words = sorted elf_app words >>= elf_of
+meaning_by first.Segments words = sorted segments_app words >>= segments_of
 
 -- what words mean, by the first of them
 unfoldable pub meaning_of : List Text → Option Meaning

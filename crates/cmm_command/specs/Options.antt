@@ -22,16 +22,16 @@ operand name = record (new_rule name) { required = true }
 abbrev pub units : Rule
 units = record (operand (codes "unit")) { range = Some (record { start_inclusive = 1; end_inclusive = usize_max }) }
 
--- `-o IMAGE`, which has to be there
-abbrev pub output : Rule
-output = record (operand (codes "image")) { short = Some 111 }
+-- `-o NAME`, which has to be there
+abbrev pub output : Text → Rule
+output name = record (operand name) { short = Some 111 }
 
 -- `--client SCRIPT`, `--steps N` and `--stack BYTES`
 abbrev pub with_run_options : App → App
 with_run_options app = with_rule (with_rule (with_rule app (option (codes "client"))) (option (codes "steps"))) (option (codes "stack"))
 
 unfoldable pub build_app : App
-build_app = with_rule (with_rule (helpless_app (codes "build")) units) output
+build_app = with_rule (with_rule (helpless_app (codes "build")) units) (output (codes "image"))
 
 unfoldable pub run_app : App
 run_app = with_rule (with_run_options (with_rule (helpless_app (codes "run")) (operand (codes "image")))) (option (codes "save"))
@@ -44,3 +44,9 @@ walk_app = with_rule (with_rule (helpless_app (codes "walk")) (operand (codes "i
 
 unfoldable pub generate_app : App
 generate_app = with_rule (helpless_app (codes "gen")) (operand (codes "number"))
+
+unfoldable pub elf_app : App
+elf_app = with_rule (with_rule (helpless_app (codes "elf")) (operand (codes "image"))) (output (codes "file"))
+
+unfoldable pub segments_app : App
+segments_app = with_rule (helpless_app (codes "segments")) (operand (codes "file"))

@@ -59,4 +59,16 @@ pub enum Command<'a> {
         /// Which program: a number of nine digits at most.
         number: u64,
     },
+    /// To write the ELF file of an image.
+    Elf {
+        /// The file of the image.
+        image: &'a str,
+        /// The file that is written.
+        file: &'a str,
+    },
+    /// To tell the segments of an ELF file.
+    Segments {
+        /// The ELF file.
+        file: &'a str,
+    },
 }

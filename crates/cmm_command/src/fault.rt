@@ -9,7 +9,7 @@ use thiserror::Error;
 /// Why words are no command.
 #[derive(Clone, Copy, Debug, PartialEq, Eq, Error)]
 pub enum CommandFault {
-    /// There is no first word, it is none of the five, its command does not take the words after it, a number is not in form or range, or
+    /// There is no first word, it is none of the seven, its command does not take the words after it, a number is not in form or range, or
     /// a file's name has more than 4,095 bytes.
     #[error("usage")]
     Usage,

@@ -11,14 +11,18 @@ pub enum FirstWord {
     Exec,
     Walk,
     Generate,
+    Elf,
+    Segments,
 }
 
-const FIRST_WORDS: [FirstWord; 5] = [
+const FIRST_WORDS: [FirstWord; 7] = [
     FirstWord::Build,
     FirstWord::Run,
     FirstWord::Exec,
     FirstWord::Walk,
     FirstWord::Generate,
+    FirstWord::Elf,
+    FirstWord::Segments,
 ];
 
 impl FirstWord {
@@ -32,6 +36,8 @@ impl FirstWord {
             FirstWord::Exec => "exec",
             FirstWord::Walk => "walk",
             FirstWord::Generate => "gen",
+            FirstWord::Elf => "elf",
+            FirstWord::Segments => "segments",
         }
     }
 

@@ -5,7 +5,7 @@
 //!
 //! - `command`: `Command`, what is asked for, and `RunLimits`, with those of a run for which nothing is said.
 //! - `fault`: `CommandFault`, why words are no command.
-//! - `first_word`: the five first words.
+//! - `first_word`: the seven first words.
 //! - `options`: what each command takes after its first word, as a command of clap.
 //! - `sorted`: words by the option or the position that they were given to, and files and limits read from them.
 //! - `numbers`: the numbers that words write.

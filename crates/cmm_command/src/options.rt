@@ -13,6 +13,9 @@ pub const UNIT: &str = "unit";
 /// The file of the image.
 pub const IMAGE: &str = "image";
 
+/// The ELF file.
+pub const FILE: &str = "file";
+
 /// The file to which a program was saved.
 pub const SNAPSHOT: &str = "snapshot";
 
@@ -37,7 +40,7 @@ pub fn build<'a>(alloc: Global) -> Result<Command<'a>, AllocError>
 {
     let command = helpless(alloc, "build")
         .arg(units(alloc))?
-        .arg(output(alloc))?;
+        .arg(output(alloc, IMAGE))?;
     Ok(command)
 }
 
@@ -78,6 +81,24 @@ pub fn generate<'a>(alloc: Global) -> Result<Command<'a>, AllocError>
     Ok(command)
 }
 
+/// What `elf` takes.
+pub fn elf<'a>(alloc: Global) -> Result<Command<'a>, AllocError>
+    ensures { IfOk result (λ c. app_of c ≡ options.elf_app) }
+{
+    let command = helpless(alloc, "elf")
+        .arg(operand(alloc, IMAGE))?
+        .arg(output(alloc, FILE))?;
+    Ok(command)
+}
+
+/// What `segments` takes.
+pub fn segments<'a>(alloc: Global) -> Result<Command<'a>, AllocError>
+    ensures { IfOk result (λ c. app_of c ≡ options.segments_app) }
+{
+    let command = helpless(alloc, "segments").arg(operand(alloc, FILE))?;
+    Ok(command)
+}
+
 /// Adds the options of a run: its client, its steps and its stack.
 fn with_run_options<'a>(alloc: Global, command: Command<'a>) -> Result<Command<'a>, AllocError>
     ensures { IfOk result (λ c. app_of c ≡ options.with_run_options (app_of command.entry)) }
@@ -104,12 +125,12 @@ fn units<'a>(alloc: Global) -> Arg<'a>
     operand(alloc, UNIT).num_args(1..)
 }
 
-/// The file of the image after `-o`.
-fn output<'a>(alloc: Global) -> Arg<'a>
-    ensures rule { rule_of result ≡ options.output }
+/// The file of this name that is written, after `-o`.
+fn output<'a>(alloc: Global, name: &'a str) -> Arg<'a>
+    ensures rule { rule_of result ≡ options.output name.entry.now }
     ensures own { result.global ≡ false }
 {
-    operand(alloc, IMAGE).short('o')
+    operand(alloc, name).short('o')
 }
 
 /// An option of this name, which takes one value.

@@ -9,7 +9,7 @@ ghost use Rattle.cmm_command.specs.Reading.{Gives};
 use crate::command::Command;
 use crate::fault::CommandFault;
 use crate::first_word::FirstWord;
-use crate::options::{self, CLIENT, IMAGE, SAVE, SNAPSHOT, UNIT};
+use crate::options::{self, CLIENT, FILE, IMAGE, SAVE, SNAPSHOT, UNIT};
 use crate::sorted;
 use std::alloc::Global;
 
@@ -48,6 +48,8 @@ fn asked<'a>(
         FirstWord::Exec => exec(alloc, words),
         FirstWord::Walk => walk(alloc, words),
         FirstWord::Generate => generate(alloc, words),
+        FirstWord::Elf => elf(alloc, words),
+        FirstWord::Segments => segments(alloc, words),
     }
 }
 
@@ -110,4 +112,23 @@ fn generate<'a>(alloc: Global, words: &'a [String]) -> Result<Command<'a>, Comma
     let matches = sorted::sorted(options::generate(alloc)?, words)?;
     let number = sorted::program_number(&matches)?;
     Ok(Command::Generate { number })
+}
+
+/// What words that begin with `elf` ask for.
+fn elf<'a>(alloc: Global, words: &'a [String]) -> Result<Command<'a>, CommandFault>
+    ensures { Gives plain (meaning_by first.Elf (map string_bytes words.entry.now)) result }
+{
+    let matches = sorted::sorted(options::elf(alloc)?, words)?;
+    let image = sorted::file(&matches, IMAGE)?;
+    let file = sorted::file(&matches, FILE)?;
+    Ok(Command::Elf { image, file })
+}
+
+/// What words that begin with `segments` ask for.
+fn segments<'a>(alloc: Global, words: &'a [String]) -> Result<Command<'a>, CommandFault>
+    ensures { Gives plain (meaning_by first.Segments (map string_bytes words.entry.now)) result }
+{
+    let matches = sorted::sorted(options::segments(alloc)?, words)?;
+    let file = sorted::file(&matches, FILE)?;
+    Ok(Command::Segments { file })
 }
