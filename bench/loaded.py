@@ -15,7 +15,7 @@ TOP = os.path.dirname(os.path.dirname(os.path.abspath(__file__)))
 sys.path.insert(0, f"{TOP}/tools")
 
 from counted import EMULATOR, compiled, seconds, written
-from elf import built_loader, elf_file, parts
+from elf import built_loader
 from loops import HASH, HISTOGRAM, MATRIX, SEARCH, SORT, SUM
 
 TIMES = 200
@@ -36,10 +36,7 @@ def loaded(folder, program, unit):
     """The path of the ELF file of a unit."""
     image, path = f"{folder}/a.image", f"{folder}/a.elf"
     subprocess.run([program, "build", written(folder, "a.cmm", unit), "-o", image], check=True)
-    with open(image, "rb") as file:
-        made = elf_file(*parts(file.read()))
-    with open(path, "wb") as file:
-        file.write(made)
+    subprocess.run([program, "elf", image, "-o", path], check=True)
     return path
 
 

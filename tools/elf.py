@@ -1,10 +1,10 @@
 #!/usr/bin/env python3
 """Programs of examples/ as ELF files, by the real tools of RISC-V: elf.py [PROGRAM].
 
-PROGRAM builds the image of each program, crates/cmm/out/cmm where it is not given, which `rt ci` leaves there. The ELF file of the image is written here, by the
-table of docs/FORMATS.md. Then
+PROGRAM builds the image of each program, crates/cmm/out/cmm where it is not given, which `rt ci` leaves there, and writes the ELF file of it by `elf`. Then
 
-- `readelf -hl` must read of it the entry and the two segments of the image;
+- its bytes must be those that are written here by the table of docs/FORMATS.md;
+- `readelf -hl` must read of it the entry and the two segments of the image, and `PROGRAM segments` must tell the same;
 - `objdump` must read each word of its code as an instruction of RV64IM;
 - the loader of tools/start/, built here, must do with it under `qemu-riscv64` what `PROGRAM run` does with the image: the same output, line and exit status.
 
@@ -76,8 +76,23 @@ def built_loader(folder):
     return f"{folder}/start"
 
 
-def headers_fault(path, code, data, start):
-    """What `readelf` reads other than the image has, if anything."""
+def file_fault(path, code, data, start):
+    """Where `elf` has not written the bytes of the table, if anywhere."""
+    with open(path, "rb") as file:
+        found = file.read()
+    wanted = elf_file(code, data, start)
+    if found == wanted:
+        return None
+    apart = [at for at, (a, b) in enumerate(zip(found, wanted)) if a != b] or [min(len(found), len(wanted))]
+    return f"elf writes {len(found)} bytes, by the table there are {len(wanted)}, and the first that differs is at {apart[0]}"
+
+
+def headers_fault(program, path, code, data, start):
+    """What `readelf` or `segments` reads other than the image has, if anything."""
+    told = run(program, "segments", path)
+    line = f"code {len(code)} data {len(data)} start {start:016x}\n".encode()
+    if (told.returncode, told.stdout, told.stderr) != (0, b"", line):
+        return f"segments answers {told.returncode}, {told.stdout} and {told.stderr}, and not {line}"
     text = run(READELF, "-hlW", path).stdout.decode()
     found = [
         *re.findall(r"^ +(?:Class|Type|Machine): +(\S+)", text, re.M),
@@ -122,9 +137,15 @@ def faults(folder, program, loader, name, given):
         return [f"not built: {built.stderr}"]
     with open(image, "rb") as file:
         code, data, start = parts(file.read())
-    with open(path, "wb") as file:
-        file.write(elf_file(code, data, start))
-    found = [headers_fault(path, code, data, start), code_fault(folder, path, code), run_fault(program, image, loader, path, given)]
+    written = run(program, "elf", image, "-o", path)
+    if (written.returncode, written.stdout, written.stderr) != (0, b"", b""):
+        return [f"elf answers {written.returncode}, {written.stdout} and {written.stderr}"]
+    found = [
+        file_fault(path, code, data, start),
+        headers_fault(program, path, code, data, start),
+        code_fault(folder, path, code),
+        run_fault(program, image, loader, path, given),
+    ]
     return [fault for fault in found if fault]
 
 

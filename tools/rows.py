@@ -17,12 +17,14 @@ A file has one of these after its name, and so has `then`; the paths of `from` b
 
     : TEXT                      this text, without an end of its last line
     = "TEXT" * N + "TEXT"       these bytes, by the escapes \\n \\t \\r \\0 \\\\ \\" and \\xHH
-    is NAME                     the text of a line `unit NAME` with `: TEXT` or `= ..`, of this paragraph or of an earlier one without words
+    is NAME                     the text of a line `unit NAME` with `: TEXT` or `= ..`, of this paragraph or of an earlier one without words; CHANGES may follow, each
+                                behind a comma
     from PATH
-    by SCRIPT WORDS             what this script of tools/ prints; CHANGES may follow, each behind a comma
+    by SCRIPT WORDS             what this script of tools/ prints; CHANGES may follow too
     image of a.cmm b.cmm        what the program builds of these files of the case; CHANGES may follow too:
                                 `first 0 .. 3 bytes` (a run for each length), `each byte xor ff` or `each byte is 00` (a run for each byte), `at 64 00 00`, `24 has 00 01`
                                 (which those bytes must be already), `and 00` (at the end)
+    elf of a.cmm b.cmm          the ELF file of that image, as tools/elf.py writes it by the table of docs/FORMATS.md
 
 `longest: 2` is how many bytes a read of a file or a write moves at most (`1 .. 3`: a run for each number); with 0 a write takes nothing.
 `input fails`, `output fails` and `log fails` make that stream one that cannot be read or written. `fails: log 2` makes one call on a device fail, counted from
@@ -50,6 +52,7 @@ import subprocess
 import sys
 import tempfile
 
+from elf import elf_file, parts
 from image_reading import read_image
 
 TOOLS = os.path.dirname(os.path.abspath(__file__))
@@ -354,18 +357,25 @@ class Runner:
 
     def contents(self, case, told):
         """What a file may have in it: one content, or several where a change says `each` or `first`."""
-        if told.startswith("is "):
-            return [case.units[told[3:]]]
         if told.startswith("from "):
             with open(os.path.join(ROWS, told[5:]), "rb") as file:
                 return [file.read()]
-        if not told.startswith(("by ", "image of ")):
+        if not told.startswith(("is ", "by ", "image of ", "elf of ")):
             return [plain(told)]
         made, *changes = re.split(r",\s+", told)
-        found = [self.printed(made[3:])] if made.startswith("by ") else [self.image_of(case, made[len("image of ") :].split())]
+        found = [self.made(case, made)]
         for change in changes:
             found = [it for image in found for it in changed(image, change)]
         return found
+
+    def made(self, case, told):
+        """What a file has before any change."""
+        if told.startswith("is "):
+            return case.units[told[3:]]
+        if told.startswith("by "):
+            return self.printed(told[3:])
+        image = self.image_of(case, told.partition(" of ")[2].split())
+        return elf_file(*parts(image)) if told.startswith("elf of ") else image
 
     def texts_of(self, case):
         """What stands for `$NAME` in a case."""

@@ -8,7 +8,7 @@ use Rattle.cmm_command.specs.Laws.{CommandsAreInRange, IsName}
 use Rattle.cmm_command.specs.Meaning.{Meaning, meaning_of}
 use Rattle.cmm_command.specs.Meaning as meaning
 use Rattle.cmm_outside.specs.declared.storage.TheConstants.{NAME_LIMIT}
-use Rattle.cmm_top.specs.Words.{Task, execute, run, build, walk, generate, task_in, task_of}
+use Rattle.cmm_top.specs.Words.{Task, execute, run, build, walk, generate, convert, inspect, task_in, task_of}
 use Rattle.cmm_top.specs.declared.task.Task.{Task as TaskAsked}
 use Rattle.cmm_top.specs.inside.Tasks.{CanBeDone, IsAsked, plain_task}
 
@@ -39,6 +39,12 @@ can_be_done law words (meaning.walk image snapshot) t is asks =
     let range = law words (meaning.walk image snapshot) is in
     let same : walk image snapshot ≡ t = cc in subst CanBeDone same range
 can_be_done law words (meaning.generate number) t is asks = let same : generate number ≡ t = cc in subst CanBeDone same tt
+can_be_done law words (meaning.elf image file) t is asks =
+    let range = law words (meaning.elf image file) is in
+    let same : convert image file ≡ t = cc in subst CanBeDone same range
+can_be_done law words (meaning.segments file) t is asks =
+    let range = law words (meaning.segments file) is in
+    let same : inspect file ≡ t = cc in subst CanBeDone same range
 
 pub task_is : (words : List (List ℕ)) (m : Meaning) (o : Option Task) → meaning_of words ≡ Some m → task_in m ≡ o → task_of words ≡ o
 task_is words m o is asks = ap (λ x. elim x as (λ _. Option Task) [ Some n ↦ task_in n | None ↦ None ]) is ∙ asks

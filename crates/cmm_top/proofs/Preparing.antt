@@ -3,6 +3,7 @@ use Rattle.std.proofs.Common.{◌≡◌, ℕ, List, [], ◌∷◌, ◌++◌, Opt
 use Rattle.std.specs.Prelude.{◌⊎◌}
 use Rattle.std.specs.Result.{IsErrAnd}
 use Rattle.std.proofs.lemmas.List.Elements.{Contains-append_left, Contains-append_right}
+use Rattle.cmm_elf.specs.declared.reading.TheConstants.{ELF_LIMIT}
 use Rattle.cmm_image.specs.Images.{SpellsImage}
 use Rattle.cmm_image.specs.declared.parts.ImageParts.{ImageParts}
 use Rattle.cmm_image.specs.declared.reading.TheConstants.{IMAGE_LIMIT}
@@ -24,12 +25,13 @@ use Rattle.cmm_top.specs.declared.reading.ReadFault.TheVariants.{Failed, Memory}
 use Rattle.cmm_top.specs.declared.sources.Sources.{Sources}
 use Rattle.cmm_top.specs.Call.{Outside}
 use Rattle.cmm_top.specs.Files.{FailsToRead, HasBytes, HasUnits}
+use Rattle.cmm_top.specs.Inspecting.{IsNoElfFile}
 use Rattle.cmm_top.specs.Running.{IsRefused}
 use Rattle.cmm_top.specs.Script.{HasScript, HoldsNoScript, named_file}
 use Rattle.cmm_top.specs.Units.{HaveFault, IsRefused as AreRefused}
 use Rattle.cmm_top.specs.Walking.{HasBadSnapshot}
 use Rattle.cmm_top.specs.Work.{RanOutOfMemory}
-use Rattle.cmm_top.specs.inside.Ending.{IsNotImage, IsNotSnapshot, IsRefusedScript, IsUnread, LackImage, work_of}
+use Rattle.cmm_top.specs.inside.Ending.{IsNotElf, IsNotImage, IsNotSnapshot, IsRefusedScript, IsUnread, LackImage, work_of}
 use Rattle.cmm_top.specs.inside.Reading.{AreRead, AreUnits, IsClientRead, IsFileOf, IsScriptRead, ReadsOrFails}
 use Rattle.cmm_top.proofs.FilesRead.{bytes_so}
 use Rattle.cmm_top.proofs.Refusing.{fault_in, is_refused, ran_out}
@@ -96,9 +98,11 @@ not_image name bytes before after (ending.BadScript rule line) same there first 
 not_image name bytes before after (ending.FileFault n) same there first = absurd first
 not_image name bytes before after (ending.BadSnapshot rule offset) same there first = absurd first
 not_image name bytes before after ending.OutputFault same there first = absurd first
-not_image name bytes before after ending.Built same there first = absurd first
+not_image name bytes before after ending.Written same there first = absurd first
 not_image name bytes before after ending.Walked same there first = absurd first
 not_image name bytes before after (ending.Ran outcome) same there first = absurd first
+not_image name bytes before after (ending.BadElf rule offset) same there first = absurd first
+not_image name bytes before after (ending.Inspected code initial start) same there first = absurd first
 
 -- the file that was read holds no image
 pub holds_no_image : (name : List ℕ) (before after : Outside) (read : FileBytes) (end : Ending) → after ≡ before → HasBytes before.files name (λ bytes. IsFileOf IMAGE_LIMIT bytes read) →
@@ -127,9 +131,11 @@ not_snapshot name snapshot bytes image before after (ending.BadImage rule offset
 not_snapshot name snapshot bytes image before after (ending.BadScript rule line) same spelled there first = absurd first
 not_snapshot name snapshot bytes image before after (ending.FileFault n) same spelled there first = absurd first
 not_snapshot name snapshot bytes image before after ending.OutputFault same spelled there first = absurd first
-not_snapshot name snapshot bytes image before after ending.Built same spelled there first = absurd first
+not_snapshot name snapshot bytes image before after ending.Written same spelled there first = absurd first
 not_snapshot name snapshot bytes image before after ending.Walked same spelled there first = absurd first
 not_snapshot name snapshot bytes image before after (ending.Ran outcome) same spelled there first = absurd first
+not_snapshot name snapshot bytes image before after (ending.BadElf rule offset) same spelled there first = absurd first
+not_snapshot name snapshot bytes image before after (ending.Inspected code initial start) same spelled there first = absurd first
 
 -- the file that was read holds no snapshot
 pub holds_no_snapshot : (name snapshot : List ℕ) (image : ImageParts) (before after : Outside) (read : FileBytes) (end : Ending) → after ≡ before →
@@ -137,6 +143,36 @@ pub holds_no_snapshot : (name snapshot : List ℕ) (image : ImageParts) (before 
     ((bytes : List ℕ) → IsFileOf SNAPSHOT_LIMIT bytes read → IsNotSnapshot image bytes end) →
     HasBadSnapshot name snapshot (work_of end None before after) ⊎ RanOutOfMemory (work_of end None before after)
 holds_no_snapshot name snapshot image before after read end same spelled (bytes, there, is) lacks = not_snapshot name snapshot bytes image before after end same spelled there (lacks bytes is)
+
+-- ---- an ELF file
+
+not_elf : (name bytes : List ℕ) (before after : Outside) (end : Ending) → after ≡ before → IfSome before.files (λ files. files name ≡ Some bytes) → IsNotElf bytes end →
+    IsNoElfFile name (work_of end None before after) ⊎ RanOutOfMemory (work_of end None before after)
+not_elf name bytes before after (ending.BadElf rule offset) same there first = inl record {
+  rule = rule;
+  offset = offset;
+  first = (bytes, there, first);
+  nothing = record { same = same; no_image = refl };
+  ends = record { line = refl; status = refl };
+}
+not_elf name bytes before after ending.OutOfMemory same there first = inr (ran_out before after same)
+not_elf name bytes before after ending.Usage same there first = absurd first
+not_elf name bytes before after (ending.Refused n f) same there first = absurd first
+not_elf name bytes before after (ending.BadImage rule offset) same there first = absurd first
+not_elf name bytes before after (ending.BadScript rule line) same there first = absurd first
+not_elf name bytes before after (ending.BadSnapshot rule offset) same there first = absurd first
+not_elf name bytes before after (ending.FileFault n) same there first = absurd first
+not_elf name bytes before after ending.OutputFault same there first = absurd first
+not_elf name bytes before after ending.Written same there first = absurd first
+not_elf name bytes before after ending.Walked same there first = absurd first
+not_elf name bytes before after (ending.Inspected code initial start) same there first = absurd first
+not_elf name bytes before after (ending.Ran outcome) same there first = absurd first
+
+-- the file that was read is no ELF file of an image
+pub holds_no_elf : (name : List ℕ) (before after : Outside) (read : FileBytes) (end : Ending) → after ≡ before → HasBytes before.files name (λ bytes. IsFileOf ELF_LIMIT bytes read) →
+    ((bytes : List ℕ) → IsFileOf ELF_LIMIT bytes read → IsNotElf bytes end) →
+    IsNoElfFile name (work_of end None before after) ⊎ RanOutOfMemory (work_of end None before after)
+holds_no_elf name before after read end same (bytes, there, is) lacks = not_elf name bytes before after end same there (lacks bytes is)
 
 -- ---- a script
 
@@ -175,18 +211,22 @@ refused_script name before after (Whole bytes) (ending.BadImage rule offset) sam
 refused_script name before after (Whole bytes) (ending.FileFault n) same has first = absurd first
 refused_script name before after (Whole bytes) (ending.BadSnapshot rule offset) same has first = absurd first
 refused_script name before after (Whole bytes) ending.OutputFault same has first = absurd first
-refused_script name before after (Whole bytes) ending.Built same has first = absurd first
+refused_script name before after (Whole bytes) ending.Written same has first = absurd first
 refused_script name before after (Whole bytes) ending.Walked same has first = absurd first
 refused_script name before after (Whole bytes) (ending.Ran outcome) same has first = absurd first
+refused_script name before after (Whole bytes) (ending.BadElf rule offset) same has first = absurd first
+refused_script name before after (Whole bytes) (ending.Inspected code initial start) same has first = absurd first
 refused_script name before after TooLong ending.Usage same has first = absurd first
 refused_script name before after TooLong (ending.Refused n f) same has first = absurd first
 refused_script name before after TooLong (ending.BadImage rule offset) same has first = absurd first
 refused_script name before after TooLong (ending.FileFault n) same has first = absurd first
 refused_script name before after TooLong (ending.BadSnapshot rule offset) same has first = absurd first
 refused_script name before after TooLong ending.OutputFault same has first = absurd first
-refused_script name before after TooLong ending.Built same has first = absurd first
+refused_script name before after TooLong ending.Written same has first = absurd first
 refused_script name before after TooLong ending.Walked same has first = absurd first
 refused_script name before after TooLong (ending.Ran outcome) same has first = absurd first
+refused_script name before after TooLong (ending.BadElf rule offset) same has first = absurd first
+refused_script name before after TooLong (ending.Inspected code initial start) same has first = absurd first
 
 -- without a file there is always a script, but memory may run out
 none_refused : (before after : Outside) (end : Ending) → after ≡ before → IsRefusedScript None end → RanOutOfMemory (work_of end None before after)
@@ -198,9 +238,11 @@ none_refused before after (ending.BadScript rule line) same first = absurd first
 none_refused before after (ending.FileFault n) same first = absurd first
 none_refused before after (ending.BadSnapshot rule offset) same first = absurd first
 none_refused before after ending.OutputFault same first = absurd first
-none_refused before after ending.Built same first = absurd first
+none_refused before after ending.Written same first = absurd first
 none_refused before after ending.Walked same first = absurd first
 none_refused before after (ending.Ran outcome) same first = absurd first
+none_refused before after (ending.BadElf rule offset) same first = absurd first
+none_refused before after (ending.Inspected code initial start) same first = absurd first
 
 -- what was read holds no script
 pub no_script_in : (client : Option (List ℕ)) (before after : Outside) (read : Option FileBytes) (end : Ending) → after ≡ before → IsClientRead before.files client read →

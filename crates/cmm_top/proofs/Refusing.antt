@@ -44,9 +44,11 @@ is_refused names HasFault before after (build.At f) (ending.BadSnapshot rule off
 is_refused names HasFault before after (build.At f) (ending.FileFault name) same refuses has = absurd refuses
 is_refused names HasFault before after (build.At f) ending.OutputFault same refuses has = absurd refuses
 is_refused names HasFault before after (build.At f) ending.OutOfMemory same refuses has = absurd refuses
-is_refused names HasFault before after (build.At f) ending.Built same refuses has = absurd refuses
+is_refused names HasFault before after (build.At f) ending.Written same refuses has = absurd refuses
 is_refused names HasFault before after (build.At f) ending.Walked same refuses has = absurd refuses
 is_refused names HasFault before after (build.At f) (ending.Ran outcome) same refuses has = absurd refuses
+is_refused names HasFault before after (build.At f) (ending.BadElf rule offset) same refuses has = absurd refuses
+is_refused names HasFault before after (build.At f) (ending.Inspected code initial start) same refuses has = absurd refuses
 is_refused names HasFault before after build.Memory ending.OutOfMemory same refuses has = inr (ran_out before after same)
 is_refused names HasFault before after build.Memory ending.Usage same refuses has = absurd refuses
 is_refused names HasFault before after build.Memory (ending.Refused name g) same refuses has = absurd refuses
@@ -55,9 +57,11 @@ is_refused names HasFault before after build.Memory (ending.BadScript rule line)
 is_refused names HasFault before after build.Memory (ending.BadSnapshot rule offset) same refuses has = absurd refuses
 is_refused names HasFault before after build.Memory (ending.FileFault name) same refuses has = absurd refuses
 is_refused names HasFault before after build.Memory ending.OutputFault same refuses has = absurd refuses
-is_refused names HasFault before after build.Memory ending.Built same refuses has = absurd refuses
+is_refused names HasFault before after build.Memory ending.Written same refuses has = absurd refuses
 is_refused names HasFault before after build.Memory ending.Walked same refuses has = absurd refuses
 is_refused names HasFault before after build.Memory (ending.Ran outcome) same refuses has = absurd refuses
+is_refused names HasFault before after build.Memory (ending.BadElf rule offset) same refuses has = absurd refuses
+is_refused names HasFault before after build.Memory (ending.Inspected code initial start) same refuses has = absurd refuses
 
 -- a fault that the units have in the files
 pub fault_in : (contents : Option Contents) (names : List (List ℕ)) (fault : BuildFault) → HasUnits contents names (λ units. IsRefusedBy (IsFaultOf units) fault) →

@@ -9,8 +9,11 @@ pub mod Executing
 pub mod Saving
 pub mod Running
 pub mod Walking
+pub mod Writing
 pub mod Building
 pub mod Generating
+pub mod Converting
+pub mod Inspecting
 pub mod Words
 pub mod Reads
 pub mod Answers

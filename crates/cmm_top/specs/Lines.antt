@@ -25,6 +25,10 @@ bad_image_line rule offset = codes "bad image " ++ (decimal (rule_number rule) +
 abbrev pub bad_snapshot_line : Rule → ℕ → List ℕ
 bad_snapshot_line rule offset = codes "bad snapshot " ++ (decimal (rule_number rule) ++ (codes " at " ++ (decimal offset ++ codes "\n")))
 
+-- a file that is no ELF file of an image
+abbrev pub bad_elf_line : Rule → ℕ → List ℕ
+bad_elf_line rule offset = codes "bad elf " ++ (decimal (rule_number rule) ++ (codes " at " ++ (decimal offset ++ codes "\n")))
+
 -- a file that holds no script of a client, by the rule that its bytes break first, and in which line
 abbrev pub bad_script_line : Rule → ℕ → List ℕ
 bad_script_line rule line = codes "bad script " ++ (decimal (rule_number rule) ++ (codes " line " ++ (decimal line ++ codes "\n")))
@@ -45,6 +49,10 @@ outcome_line (Trap trap) = codes "trap " ++ (decimal (trap_number trap.kind) ++ 
 outcome_line InputFault = codes "input fault\n"
 outcome_line OutputFault = []
 outcome_line (Torn torn) = codes "torn " ++ (address_text torn.frame ++ (codes " " ++ (address_text torn.address ++ codes "\n")))
+
+-- an ELF file: how many bytes its code and its data have, and the address at which it starts
+abbrev pub segments_line : ℕ → ℕ → ℕ → List ℕ
+segments_line code initial start = codes "code " ++ (decimal code ++ (codes " data " ++ (decimal initial ++ (codes " start " ++ (address_text start ++ codes "\n")))))
 
 -- ---- counts
 

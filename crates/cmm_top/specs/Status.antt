@@ -3,7 +3,7 @@ use Rattle.std.specs.Prelude.{ℕ}
 use Rattle.cmm_run.specs.declared.outcome.Outcome.{Outcome}
 use Rattle.cmm_run.specs.declared.outcome.Outcome.TheVariants as outcome
 use Rattle.cmm_top.specs.declared.status.Status.{Status}
-use Rattle.cmm_top.specs.declared.status.Status.TheVariants.{Done, Usage, Refused, BadImage, Stopped, StackLimit, StepLimit, Trap, FileFault, InputFault, OutputFault, Memory, BadSnapshot, BadScript, Torn}
+use Rattle.cmm_top.specs.declared.status.Status.TheVariants.{Done, Usage, Refused, BadImage, Stopped, StackLimit, StepLimit, Trap, FileFault, InputFault, OutputFault, Memory, BadSnapshot, BadScript, Torn, BadElf}
 
 abbrev pub number_of : Status → ℕ
 number_of Done = 0
@@ -21,6 +21,7 @@ number_of Memory = 12
 number_of BadSnapshot = 13
 number_of BadScript = 14
 number_of Torn = 15
+number_of BadElf = 17
 
 -- that of a run
 abbrev pub status_of : Outcome → Status

@@ -66,7 +66,7 @@ pub(crate) fn build<'a, F: Files>(
         Err(AllocError) => return Ending::OutOfMemory,
     };
     match write_file(files, name, &bytes) {
-        Ok(()) => Ending::Built,
+        Ok(()) => Ending::Written,
         Err(Failed) => Ending::FileFault(name),
     }
 }

@@ -18,16 +18,20 @@ pub(crate) enum Ending<'a> {
     BadScript { rule: Rule, line: u32 },
     /// The bytes of a file are no snapshot of a run of the image: this rule is broken at the field that begins at this offset.
     BadSnapshot { rule: Rule, offset: u64 },
+    /// The bytes of a file are no ELF file of an image: this rule is broken at the field that begins at this offset.
+    BadElf { rule: Rule, offset: u64 },
     /// A call on the file of this name failed.
     FileFault(&'a str),
     /// A call on the log failed.
     OutputFault,
     /// Memory ran out.
     OutOfMemory,
-    /// An image was written to its file.
-    Built,
+    /// An image was written to a file, or its ELF file.
+    Written,
     /// The walk of a stopped program was written.
     Walked,
+    /// An ELF file was read: its code and its data have these lengths in bytes, and it starts at this address.
+    Inspected { code: u64, initial: u64, start: u64 },
     /// An image has run.
     Ran(Outcome),
 }

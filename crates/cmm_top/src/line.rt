@@ -3,7 +3,7 @@
 ghost use Rattle.std.specs.Prelude.{◌≡◌};
 ghost use Rattle.cmm_outside.specs.Output.{WritesAll};
 ghost use Rattle.cmm_top.specs.inside.Ending.{Closes, line_of, status_at};
-ghost use Rattle.cmm_top.specs.Lines.{bad_image_line, bad_script_line, bad_snapshot_line, outcome_line, refused_line};
+ghost use Rattle.cmm_top.specs.Lines.{bad_elf_line, bad_image_line, bad_script_line, bad_snapshot_line, outcome_line, refused_line, segments_line};
 
 use crate::ending::Ending;
 use crate::status::Status;
@@ -32,15 +32,16 @@ fn status_of(ending: &Ending) -> Status
         Ending::BadImage { .. } => Status::BadImage,
         Ending::BadScript { .. } => Status::BadScript,
         Ending::BadSnapshot { .. } => Status::BadSnapshot,
+        Ending::BadElf { .. } => Status::BadElf,
         Ending::FileFault(_) => Status::FileFault,
         Ending::OutputFault => Status::OutputFault,
         Ending::OutOfMemory => Status::Memory,
-        Ending::Built | Ending::Walked => Status::Done,
+        Ending::Written | Ending::Walked | Ending::Inspected { .. } => Status::Done,
         Ending::Ran(outcome) => Status::of(outcome),
     }
 }
 
-/// Writes the line of an ending. An image or a walk that was written has none, and neither has a fault of output or log.
+/// Writes the line of an ending. A file or a walk that was written has none, and neither has a fault of output or log.
 fn write_line<E: Sink>(ending: &Ending, log: &mut E) -> Result<(), Failed>
     ensures { WritesAll E.taken E.faults log.old log.new (line_of ending.now) result }
 {
@@ -58,8 +59,14 @@ fn write_line<E: Sink>(ending: &Ending, log: &mut E) -> Result<(), Failed>
             ],
         ),
         Ending::BadSnapshot { rule, offset } => write_snapshot_fault(rule, offset, log),
-        Ending::OutputFault | Ending::Built | Ending::Walked => Ok(()),
+        Ending::BadElf { rule, offset } => write_elf_fault(rule, offset, log),
+        Ending::OutputFault | Ending::Written | Ending::Walked => Ok(()),
         Ending::OutOfMemory => write_all(log, b"out of memory\n"),
+        Ending::Inspected {
+            code,
+            initial,
+            start,
+        } => write_segments(code, initial, start, log),
         Ending::Ran(outcome) => write_outcome(outcome, log),
     }
 }
@@ -112,6 +119,40 @@ fn write_snapshot_fault<E: Sink>(rule: Rule, offset: u64, log: &mut E) -> Result
             Part::Number(u64::from(rule.number())),
             Part::Text(b" at "),
             Part::Number(offset),
+            Part::Text(b"\n"),
+        ],
+    )
+}
+
+/// Writes the line of bytes that are no ELF file of an image.
+fn write_elf_fault<E: Sink>(rule: Rule, offset: u64, log: &mut E) -> Result<(), Failed>
+    ensures { WritesAll E.taken E.faults log.old log.new (bad_elf_line rule offset) result }
+{
+    write_parts(
+        log,
+        &[
+            Part::Text(b"bad elf "),
+            Part::Number(u64::from(rule.number())),
+            Part::Text(b" at "),
+            Part::Number(offset),
+            Part::Text(b"\n"),
+        ],
+    )
+}
+
+/// Writes the line of an ELF file: the lengths of its code and its data, and where it starts.
+fn write_segments<E: Sink>(code: u64, initial: u64, start: u64, log: &mut E) -> Result<(), Failed>
+    ensures { WritesAll E.taken E.faults log.old log.new (segments_line code initial start) result }
+{
+    write_parts(
+        log,
+        &[
+            Part::Text(b"code "),
+            Part::Number(code),
+            Part::Text(b" data "),
+            Part::Number(initial),
+            Part::Text(b" start "),
+            Part::Address(start),
             Part::Text(b"\n"),
         ],
     )

@@ -38,6 +38,8 @@ pub enum Status {
     BadScript,
     /// The chain of frames breaks.
     Torn,
+    /// The file is no ELF file of an image.
+    BadElf,
 }
 
 impl Status {
@@ -63,6 +65,7 @@ impl Status {
             Status::BadSnapshot => 13,
             Status::BadScript => 14,
             Status::Torn => 15,
+            Status::BadElf => 17,
         }
     }
 

@@ -38,6 +38,15 @@ pub(crate) enum Task<'a> {
     Generate {
         number: u64,
     },
+    /// To write the ELF file of the image in a file to another.
+    Convert {
+        image: &'a str,
+        file: &'a str,
+    },
+    /// To tell the segments of an ELF file.
+    Inspect {
+        file: &'a str,
+    },
 }
 
 /// What a command asks for.
@@ -80,5 +89,7 @@ pub(crate) fn task_in<'a>(command: Command<'a>) -> Option<Task<'a>>
         }
         Command::Generate { number } => Some(Task::Generate { number }),
         Command::Walk { image, snapshot } => Some(Task::Walk { image, snapshot }),
+        Command::Elf { image, file } => Some(Task::Convert { image, file }),
+        Command::Segments { file } => Some(Task::Inspect { file }),
     }
 }

@@ -11,9 +11,11 @@ ghost use Rattle.cmm_top.specs.inside.Ending.{work_of};
 ghost use Rattle.cmm_top.specs.inside.Tasks.{CanBeDone, plain_task};
 
 use crate::building::build;
+use crate::converting::convert;
 use crate::ending::Ending;
 use crate::executing::exec;
 use crate::generating::generate;
+use crate::inspecting::inspect;
 use crate::line::close;
 use crate::running::run;
 use crate::status::Finish;
@@ -69,6 +71,14 @@ fn done<'a, F: Files, I: Source, O: Sink, E: Sink>(
             (ending, None)
         }
         Task::Generate { number } => generate(alloc, *number, input, out, log),
+        Task::Convert { image, file } => {
+            let ending = convert(alloc, *image, *file, files);
+            (ending, None)
+        }
+        Task::Inspect { file } => {
+            let ending = inspect(alloc, *file, files);
+            (ending, None)
+        }
     }
 }
 
@@ -106,6 +116,8 @@ fn ended<'a, F: Files, I: Source, O: Sink, E: Sink>(
 /// - `walk IMAGE SNAPSHOT` writes the walk of the program that a snapshot has.
 /// - `exec UNIT ..` builds the units in files and runs their image in the same way.
 /// - `gen NUMBER` builds the unit of a number, tells the counts of its program and runs its image.
+/// - `elf IMAGE -o FILE` writes the ELF file of the image in a file.
+/// - `segments FILE` tells the segments of an ELF file.
 pub fn cmm_main<F: Files, I: Source, O: Sink, E: Sink>(
     alloc: Global,
     words: &[String],

@@ -75,8 +75,8 @@ holds_told later (Some f) name bytes is told = let same : later ≡ f = cc (sym 
 
 pub built_bytes_run_so : ImagesAreOne → BuiltBytesRunSo
 built_bytes_run_so one names to from client limits save built ran can made run bytes =
-    let units = made.built.agrees in
-    let image : made.built.image ≡ run.image = one run.spelled.0 made.built.image run.image (subst (λ (bs : List ℕ). SpellsImage bs made.built.image) bytes made.built.spelled) run.spelled.2 in
+    let units = made.are.agrees in
+    let image : made.are.image ≡ run.image = one run.spelled.0 made.are.image run.image (subst (λ (bs : List ℕ). SpellsImage bs made.are.image) bytes made.are.spelled) run.spelled.2 in
     record {
       program = units.2.program;
       means = (units.0, units.1, units.2.means);

@@ -6,7 +6,7 @@ use std::fmt::Debug;
 use std::test::Fail;
 
 /// Lines that are commands.
-static COMMANDS: [(&str, &str); 17] = [
+static COMMANDS: [(&str, &str); 20] = [
     ("build a -o x", "Build { units: [\"a\"], image: \"x\" }"),
     (
         "build -o x a b",
@@ -54,6 +54,9 @@ static COMMANDS: [(&str, &str); 17] = [
     ("walk -- x --", "Walk { image: \"x\", snapshot: \"--\" }"),
     ("gen 0", "Generate { number: 0 }"),
     ("gen 00000000000999999999", "Generate { number: 999999999 }"),
+    ("elf x -o f", "Elf { image: \"x\", file: \"f\" }"),
+    ("elf -of -- -x", "Elf { image: \"-x\", file: \"f\" }"),
+    ("segments f", "Segments { file: \"f\" }"),
 ];
 
 /// Lines whose words no command takes.
@@ -77,6 +80,17 @@ static NOT_TAKEN: [&str; 19] = [
     "exec a --save s",
     "walk x",
     "walk x s t",
+];
+
+/// Lines that name too few files or too many, or have an option of another command.
+static NO_FILES: [&str; 7] = [
+    "elf x",
+    "elf -o f",
+    "elf x y -o f",
+    "elf x -o f --save s",
+    "segments",
+    "segments f g",
+    "segments f -o g",
 ];
 
 /// Lines with a number that is not in form or range.
@@ -130,7 +144,8 @@ fn lines_are_refused(rt: HostRuntime) -> Result<(), Fail> {
     let none: Vec<String> = Vec::new(alloc);
     let meaning = shown(alloc, command_of(alloc, none.as_slice()))?;
     assert_eq!(rt; meaning.as_str(), "Err(Usage)");
-    for line in NOT_TAKEN.iter().chain(NO_NUMBERS.iter()) {
+    let refused = NOT_TAKEN.iter().chain(NO_FILES.iter());
+    for line in refused.chain(NO_NUMBERS.iter()) {
         let meaning = meant(alloc, line)?;
         assert_eq!(rt; meaning.as_str(), "Err(Usage)", "{line}");
     }
@@ -138,7 +153,7 @@ fn lines_are_refused(rt: HostRuntime) -> Result<(), Fail> {
 }
 
 /// Each place where a file is named takes 4,095 bytes and no more.
-static NAMED: [(&str, &str); 9] = [
+static NAMED: [(&str, &str); 12] = [
     ("build ", " -o x"),
     ("build a ", " -o x"),
     ("build a -o ", ""),
@@ -148,6 +163,9 @@ static NAMED: [(&str, &str); 9] = [
     ("exec ", ""),
     ("walk ", " s"),
     ("walk x ", ""),
+    ("elf ", " -o f"),
+    ("elf x -o ", ""),
+    ("segments ", ""),
 ];
 
 #[test]

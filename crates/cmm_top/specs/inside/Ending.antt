@@ -3,6 +3,7 @@ use Rattle.std.specs.Prelude.{◌≡◌, ◌⊎◌, ℕ, List, [], slice_get, Op
 use Rattle.cmm_compile.specs.Refusing.{IsRefused}
 use Rattle.cmm_compile.specs.declared.fault.BuildFault.{BuildFault}
 use Rattle.cmm_compile.specs.declared.fault.BuildFault.TheVariants as build_fault
+use Rattle.cmm_elf.specs.ElfFiles.{IsFirstFault as IsFirstElfFault}
 use Rattle.cmm_front.specs.Refusing.{IsFaultOf}
 use Rattle.cmm_image.specs.Images.{IsFirstFault as IsFirstImageFault}
 use Rattle.cmm_image.specs.declared.parts.ImageParts.{ImageParts}
@@ -12,7 +13,7 @@ use Rattle.cmm_rules.specs.declared.rule.Rule.TheVariants.{ScriptTooLong}
 use Rattle.cmm_script.specs.Faults.{IsFirstFault}
 use Rattle.cmm_snapshot.specs.Snapshots.{IsFirstFault as IsFirstSnapshotFault}
 use Rattle.cmm_top.specs.declared.ending.Ending.{Ending}
-use Rattle.cmm_top.specs.declared.ending.Ending.TheVariants.{Usage, Refused, BadImage, BadScript, BadSnapshot, FileFault, OutputFault, OutOfMemory, Built, Walked, Ran}
+use Rattle.cmm_top.specs.declared.ending.Ending.TheVariants.{Usage, Refused, BadImage, BadScript, BadSnapshot, BadElf, FileFault, OutputFault, OutOfMemory, Written, Walked, Inspected, Ran}
 use Rattle.cmm_top.specs.declared.reading.FileBytes.{FileBytes}
 use Rattle.cmm_top.specs.declared.reading.FileBytes.TheVariants.{Whole, TooLong}
 use Rattle.cmm_top.specs.declared.reading.ReadFault.{ReadFault}
@@ -20,7 +21,7 @@ use Rattle.cmm_top.specs.declared.reading.ReadFault.TheVariants as read_fault
 use Rattle.cmm_top.specs.declared.status.Status.{Status}
 use Rattle.cmm_top.specs.declared.status.Status.TheVariants as status
 use Rattle.cmm_top.specs.Call.{Outside}
-use Rattle.cmm_top.specs.Lines.{bad_image_line, bad_script_line, bad_snapshot_line, file_fault_line, memory_line, outcome_line, refused_line, usage_line}
+use Rattle.cmm_top.specs.Lines.{bad_elf_line, bad_image_line, bad_script_line, bad_snapshot_line, file_fault_line, memory_line, outcome_line, refused_line, segments_line, usage_line}
 use Rattle.cmm_top.specs.Status.{status_of}
 use Rattle.cmm_top.specs.Work.{Work}
 
@@ -30,11 +31,13 @@ line_of (Refused name fault) = refused_line name.now fault
 line_of (BadImage rule offset) = bad_image_line rule offset
 line_of (BadScript rule line) = bad_script_line rule line
 line_of (BadSnapshot rule offset) = bad_snapshot_line rule offset
+line_of (BadElf rule offset) = bad_elf_line rule offset
 line_of (FileFault name) = file_fault_line name.now
 line_of OutputFault = []
 line_of OutOfMemory = memory_line
-line_of Built = []
+line_of Written = []
 line_of Walked = []
+line_of (Inspected code initial start) = segments_line code initial start
 line_of (Ran outcome) = outcome_line outcome
 
 abbrev pub status_at : Ending → Status
@@ -43,11 +46,13 @@ status_at (Refused name fault) = status.Refused
 status_at (BadImage rule offset) = status.BadImage
 status_at (BadScript rule line) = status.BadScript
 status_at (BadSnapshot rule offset) = status.BadSnapshot
+status_at (BadElf rule offset) = status.BadElf
 status_at (FileFault name) = status.FileFault
 status_at OutputFault = status.OutputFault
 status_at OutOfMemory = status.Memory
-status_at Built = status.Done
+status_at Written = status.Done
 status_at Walked = status.Done
+status_at (Inspected code initial start) = status.Done
 status_at (Ran outcome) = status_of outcome
 
 -- the work that ends so, between these
@@ -71,6 +76,12 @@ abbrev pub IsNotSnapshot : ImageParts → List ℕ → Ending → Type 0
 IsNotSnapshot image bytes (BadSnapshot rule offset) = IsFirstSnapshotFault image bytes rule offset
 IsNotSnapshot image bytes OutOfMemory = Unit {0}
 IsNotSnapshot image bytes _ = ⊥
+
+-- why bytes are no ELF file of an image
+abbrev pub IsNotElf : List ℕ → Ending → Type 0
+IsNotElf bytes (BadElf rule offset) = IsFirstElfFault bytes rule offset
+IsNotElf bytes OutOfMemory = Unit {0}
+IsNotElf bytes _ = ⊥
 
 -- why files were not read
 abbrev pub IsUnread : ReadFault → Ending → Type 0

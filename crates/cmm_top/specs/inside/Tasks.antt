@@ -6,7 +6,7 @@ use Rattle.cmm_command.specs.Laws.{IsName}
 use Rattle.cmm_compile.specs.Agreement.{IsStackSize}
 use Rattle.cmm_top.specs.declared.task.Task.{Task as TaskAsked}
 use Rattle.cmm_top.specs.declared.task.Task.TheVariants as asked
-use Rattle.cmm_top.specs.Words.{Task, execute, run, build, walk, generate}
+use Rattle.cmm_top.specs.Words.{Task, execute, run, build, walk, generate, convert, inspect}
 
 abbrev pub plain_task : TaskAsked → Task
 plain_task (asked.Execute units client limits) = execute (map (λ name. name.now) units) (option_map (λ name. name.now) client) limits
@@ -14,6 +14,8 @@ plain_task (asked.Run image client limits save) = run image.now (option_map (λ 
 plain_task (asked.Walk image snapshot) = walk image.now snapshot.now
 plain_task (asked.Build units image) = build (map (λ name. name.now) units) image.now
 plain_task (asked.Generate number) = generate number
+plain_task (asked.Convert image file) = convert image.now file.now
+plain_task (asked.Inspect file) = inspect file.now
 
 -- what is asked for is so
 abbrev pub IsAsked : Option Task → Option TaskAsked → Type 0
@@ -28,3 +30,5 @@ CanBeDone (run name client limits save) = IsName name × IfSome client IsName ×
 CanBeDone (walk name snapshot) = IsName name × IsName snapshot
 CanBeDone (build names name) = All IsName names × (0 < length names) × IsName name
 CanBeDone (generate number) = Unit {0}
+CanBeDone (convert name file) = IsName name × IsName file
+CanBeDone (inspect name) = IsName name

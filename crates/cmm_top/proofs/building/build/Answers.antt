@@ -12,7 +12,7 @@ returns-in-Ok-write_file-clause-builds g c = λ streams.
     let wrote = c.in-Ok-write_file.ensures in
     inl record {
       bytes = c.in-Ok-write_image.bytes.items;
-      built = record { image = c.in-Ok.image; agrees = read.ok; spelled = c.in-Ok-write_image.ensures };
+      are = record { image = c.in-Ok.image; agrees = read.ok; spelled = c.in-Ok-write_image.ensures };
       written = subst (λ (before : Option Contents). Writes before after c.args.name.now (λ _. c.in-Ok-write_image.bytes.items)) read.same
           (subst (λ (bytes : List ℕ). Writes (g.F.Files.contents c.image_in.new.files) after c.args.name.now (λ _. bytes)) c.deref.ensures.value wrote.ok);
       file_faults = wrote.no_fault ∙ read.no_fault;
@@ -30,7 +30,7 @@ returns-clause-builds g c = λ streams.
     let stopped = c.in-Err-write_file.ensures in
     inr (inl record {
       bytes = c.in-Ok-write_image.bytes.items;
-      built = record { image = c.in-Ok.image; agrees = read.ok; spelled = c.in-Ok-write_image.ensures };
+      are = record { image = c.in-Ok.image; agrees = read.ok; spelled = c.in-Ok-write_image.ensures };
       stops = subst (λ (before : Option Contents). StopsWriting before after failed c.args.name.now c.in-Ok-write_image.bytes.items) read.same
           (subst (λ (bytes : List ℕ). StopsWriting (g.F.Files.contents c.image_in.new.files) after failed c.args.name.now bytes) c.deref.ensures.value stopped.err);
       rose = subst (λ (before : ℕ). Rose before (g.F.Files.faults c.write_file.new.files)) read.no_fault stopped.fault;
