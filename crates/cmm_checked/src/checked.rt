@@ -20,7 +20,7 @@ use std::marker::Model;
 pub struct Checked<'a> {
     units: Items<CheckedUnit<'a>>,
     linkage: Linkage<'a>,
-    widths: Index<Option<Width>>,
+    widths: Index<'a, Option<Width>>,
 }
 
 impl<'a> Model for Checked<'a> {
@@ -45,7 +45,7 @@ impl<'a> Checked<'a> {
     pub fn new(
         units: Items<CheckedUnit<'a>>,
         linkage: Linkage<'a>,
-        widths: Index<Option<Width>>,
+        widths: Index<'a, Option<Width>>,
     ) -> Checked<'a>
         requires { AreKnown linkage widths (trees_in units) units }
         ensures { result ≡ trees_in units.entry }
@@ -74,7 +74,7 @@ impl<'a> Checked<'a> {
     }
 
     /// The width of each of their registers, by its name; none where it has no width.
-    pub fn widths(&self) -> &Index<Option<Width>>
+    pub fn widths(&self) -> &Index<'a, Option<Width>>
         ensures { AreWidths result.now (named_units self.now) }
     {
         &self.widths

@@ -23,58 +23,20 @@ use Rattle.cmm_ast.specs.declared.declaration.Export.{Export}
 use Rattle.cmm_static_semantics.specs.declared.sense.Host.{Host}
 use Rattle.cmm_static_semantics.specs.declared.sense.Sense.{Sense}
 use Rattle.cmm_static_semantics.specs.declared.sense.Sense.TheVariants as senses
-use Rattle.cmm_static_semantics.specs.Senses.{is_there, host_named}
+use Rattle.cmm_static_semantics.specs.Senses.{host_named}
 use Rattle.cmm_static_semantics.specs.Declarations.{Declared, Entry as UnitEntry, NamedUnit}
 use Rattle.cmm_static_semantics.specs.Linking.{Program, Published, address_of, exports_of, export_links, imported, published, published_as, is_among, in_order, register_names, registers_of, program_of}
 use Rattle.cmm_static_semantics.proofs.Shared.{among_append, among_in_order, is_in_order, same_order}
-use Rattle.cmm_symbols.specs.Indexed.{or_else}
+use Rattle.cmm_symbols.specs.Indexed.{indexed, or_else}
 use Rattle.cmm_symbols.specs.Shown.{entry_shown}
 use Rattle.cmm_symbols.specs.declared.entry.Entry.{Entry}
+use Rattle.cmm_symbols.specs.declared.index.Index.{Index}
 use Rattle.cmm_symbols.proofs.Shared.{mapped_next}
 use Rattle.cmm_linkage.specs.declared.linkage.Exported.{Exported}
-use Rattle.cmm_linkage.specs.declared.links.Links.{Links}
 use Rattle.cmm_linkage.specs.declared.register.Register.{Register}
 use Rattle.cmm_linkage.specs.Exports.{exported_links}
 use Rattle.cmm_linkage.specs.Registers.{registers_in, register_shown}
-use Rattle.cmm_linkage.specs.inside.Linkages.{under, exported_shown, publication, first_under, AreAdded, AreLinks}
-
--- ---- what stands under a link name
-
-kept : {E : Type 0} (o : Option E) (b : Bool) (next : E) → (b ≡ true → is_there o ≡ true) → o ≡ or_else o b next
-kept (Some e) b next h = refl
-kept None true next h = let f : false ≡ true = h refl in cc
-kept None false next h = refl
-
--- a table where a link name is there already
-pub under_kept : {E : Type 0} (f : List ℕ → Option E) (link : List ℕ) (next : E) → is_there (f link) ≡ true → (x : List ℕ) → f x ≡ or_else (f x) (bytes_eq x link) next
-under_kept f link next there x = kept (f x) (bytes_eq x link) next (λ same. ap (λ n. is_there (f n)) ((bytes_eq-Decides x link).0 same) ∙ there)
-
-else_false : {E : Type 0} (o : Option E) (next : E) → o ≡ or_else o false next
-else_false (Some e) next = refl
-else_false None next = refl
-
-bytes_eq_sym : (a b : List ℕ) → bytes_eq a b ≡ bytes_eq b a
-bytes_eq_sym a b = by (bytes_eq a b) (bytes_eq b a) refl refl
-  where
-    by : (p q : Bool) → bytes_eq a b ≡ p → bytes_eq b a ≡ q → p ≡ q
-    by true true e f = refl
-    by false false e f = refl
-    by true false e f = sym ((bytes_eq-Decides b a).1 (sym ((bytes_eq-Decides a b).0 e))) ∙ f
-    by false true e f = sym e ∙ (bytes_eq-Decides a b).1 (sym ((bytes_eq-Decides b a).0 f))
-
-pub none_there : {E : Type 0} (o : Option E) (b : Bool) → b ≡ is_some o → b ≡ false → o ≡ None
-none_there None b is not_ = refl
-none_there (Some e) b is not_ = let f : false ≡ true = sym not_ ∙ is in cc
-
--- and where it is new
-pub under_added : {E : Type 0} (f g : List ℕ → Option E) (link : List ℕ) (next : E) → f link ≡ None → ((x : List ℕ) → g x ≡ cond (bytes_eq link x) (Some next) (f x)) →
-    (x : List ℕ) → g x ≡ or_else (f x) (bytes_eq x link) next
-under_added f g link next none is x = by (bytes_eq x link) refl
-  where
-    by : (b : Bool) → bytes_eq x link ≡ b → g x ≡ or_else (f x) b next
-    by true same =
-        is x ∙ ap (λ b. cond b (Some next) (f x)) (bytes_eq_sym link x ∙ same) ∙ sym (ap (λ o. or_else o true next) (ap f ((bytes_eq-Decides x link).0 same) ∙ none))
-    by false other = is x ∙ ap (λ b. cond b (Some next) (f x)) (bytes_eq_sym link x ∙ other) ∙ else_false (f x) next
+use Rattle.cmm_linkage.specs.inside.Linkages.{exported_shown, publication, first_under, AreAdded, AreLinks}
 
 -- ---- what is exported
 
@@ -87,8 +49,8 @@ first_push : (x : List ℕ) (es : List Exported) (e : Exported) → first_under 
 first_push x [] e = refl
 first_push x (d ∷ es) e = pushed (bytes_eq x d.link.now) d.entry (first_under x es) (first_under x (es ++ e ∷ [])) (bytes_eq x e.link.now) e.entry (first_push x es e)
 
-pub links_added : (old new : Links (Option Entry)) (es more : List Exported) (e : Exported) → more ≡ es ++ e ∷ [] →
-    ((x : List ℕ) → under new x ≡ or_else (under old x) (bytes_eq x e.link.now) e.entry) → AreLinks old es → AreLinks new more
+pub links_added : (old new : Index (Option Entry)) (es more : List Exported) (e : Exported) → more ≡ es ++ e ∷ [] →
+    ((x : List ℕ) → indexed new x ≡ or_else (indexed old x) (bytes_eq x e.link.now) e.entry) → AreLinks old es → AreLinks new more
 links_added old new es more e is added are x =
     added x ∙ ap (λ o. or_else o (bytes_eq x e.link.now) e.entry) (are x) ∙ sym (ap (first_under x) is ∙ first_push x es e)
 
@@ -113,8 +75,8 @@ under_among x [] = refl
 under_among x (e ∷ es) = some_chosen (bytes_eq x e.link.now) e.entry (first_under x es) (is_among x (map (λ p. p.link) (map exported_shown es))) (under_among x es)
 
 -- what is imported, where it is no procedure of the host
-pub imported_is : (link : List ℕ) (es : List Exported) (links : Links (Option Entry)) (ps : List Published) (there : Option (Option Entry)) (entry : Option Entry) (value : Constant) →
-    None ≡ host_named link → AreLinks links es → ps ≡ map exported_shown es → there ≡ under links link → entry ≡ unwrap_or there None →
+pub imported_is : (link : List ℕ) (es : List Exported) (links : Index (Option Entry)) (ps : List Published) (there : Option (Option Entry)) (entry : Option Entry) (value : Constant) →
+    None ≡ host_named link → AreLinks links es → ps ≡ map exported_shown es → there ≡ indexed links link → entry ≡ unwrap_or there None →
     value ≡ unwrap_or (address_of (option_map entry_shown entry)) (Code 0 0) → senses.Value value ≡ imported link ps
 imported_is link es links ps there entry value own are is found_ first_ valued =
     ap (λ (v : Constant). senses.Value v)

@@ -5,14 +5,13 @@
 //! bytes, as these stand in the units, in expected constant time.
 //!
 //! - `linked`: `Linked`, which tells what units know of each other. `linkage`: `Gathered`, and `Linkage`, which is made of it.
-//! - `link`: the link names of imports and exports. `owned`: what the names of a unit are.
-//! - `register`: the registers of a unit. `links`, `register_names`: what link names and names of registers are found by.
+//! - `link`: the link names of imports and exports. `owned`: what the names of a unit are, and their numbers.
+//! - `register`: the registers of a unit. `register_names`: what names of registers are found by.
 #![tactic(auto)]
 
 mod link;
 mod linkage;
 mod linked;
-mod links;
 mod owned;
 mod register;
 mod register_names;
@@ -20,5 +19,5 @@ mod register_names;
 pub use link::{export_link, import_link};
 pub use linkage::{Gathered, Linkage};
 pub use linked::Linked;
-pub use owned::entry_of;
+pub use owned::{entry_of, number_of};
 pub use register::{Register, registers_in};

@@ -11,14 +11,13 @@ ghost use Rattle.cmm_linkage.specs.inside.Linkages.{AreLinks, exported_shown, pu
 
 use crate::link::export_link;
 use crate::linked::Linked;
-use crate::links::Links;
 use crate::owned::entry_of;
 use crate::register::registers_in;
 use crate::register_names::{add_names, number_of, put_in_order};
 use cmm_ast::Export;
 use cmm_items::Items;
 use cmm_static_semantics::Sense;
-use cmm_symbols::{Entry, Table, host_named};
+use cmm_symbols::{Entry, Index, Table, host_named};
 use cmm_words::{Constant, Name};
 use indexmap::IndexSet;
 use std::alloc::{AllocError, Global};
@@ -36,7 +35,7 @@ pub(crate) struct Exported<'a> {
 pub struct Gathered<'a> {
     exports: Items<Exported<'a>>,
     /// The first export under each link name.
-    links: Links<'a, Option<Entry<'a>>>,
+    links: Index<'a, Option<Entry<'a>>>,
     /// The names of registers, as they came.
     registers: IndexSet<&'a [u8]>,
 }
@@ -57,7 +56,7 @@ impl<'a> Model for Gathered<'a> {
 #[derive(Drop)]
 pub struct Linkage<'a> {
     exports: Items<Exported<'a>>,
-    links: Links<'a, Option<Entry<'a>>>,
+    links: Index<'a, Option<Entry<'a>>>,
     /// The names of registers, by their numbers.
     registers: IndexSet<&'a [u8]>,
 }
@@ -79,7 +78,7 @@ fn add_export<'a>(
     table: &Table<'a, Entry<'a>>,
     export: &'a Export,
     exports: &mut Items<Exported<'a>>,
-    links: &mut Links<'a, Option<Entry<'a>>>,
+    links: &mut Index<'a, Option<Entry<'a>>>,
 ) -> Result<(), AllocError>
     ensures exports { OnOk result (map exported_shown exports.new ≡ map exported_shown exports.old ++ publication (map shown table.now.declared) export.now ∷ []) }
     ensures links { OnOk result (AreLinks links.old exports.old → AreLinks links.new exports.new) }
@@ -96,7 +95,7 @@ fn add_exports<'a>(
     table: &Table<'a, Entry<'a>>,
     listed: &[&'a Export],
     exports: &mut Items<Exported<'a>>,
-    links: &mut Links<'a, Option<Entry<'a>>>,
+    links: &mut Index<'a, Option<Entry<'a>>>,
 ) -> Result<(), AllocError>
     ensures exports { OnOk result (map exported_shown exports.new ≡ map exported_shown exports.old ++ map (publication (map shown table.now.declared)) (map (λ e. e.now) listed.now)) }
     ensures links { OnOk result (AreLinks links.old exports.old → AreLinks links.new exports.new) }
@@ -139,7 +138,7 @@ impl<'a> Gathered<'a> {
     {
         Gathered {
             exports: Items::new(alloc),
-            links: Links::new(alloc),
+            links: Index::new(alloc),
             registers: IndexSet::new(alloc),
         }
     }
@@ -161,7 +160,7 @@ impl<'a> Gathered<'a> {
             mut registers,
         } = self;
         add_exports(table, listed, &mut exports, &mut links)?;
-        let own = registers_in(alloc, table.declared.as_slice())?;
+        let own = registers_in(alloc, table)?;
         add_names(own.as_slice(), &mut registers)?;
         Ok(Gathered {
             exports,

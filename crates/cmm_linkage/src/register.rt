@@ -1,15 +1,17 @@
 //! The registers of a unit.
 
-ghost use Rattle.std.specs.Prelude.{◌≡◌, ◌++◌, List, map, flat_map, IfOk, OnOk};
-ghost use Rattle.cmm_static_semantics.specs.Declarations.{Declared, Entry as UnitEntry};
+ghost use Rattle.std.specs.Prelude.{◌≡◌, ◌++◌, map, flat_map, option_map, IfOk, OnOk};
 ghost use Rattle.cmm_static_semantics.specs.Linking.{register_entry};
+ghost use Rattle.cmm_static_semantics.specs.Mentions.{listed};
+ghost use Rattle.cmm_symbols.specs.Numbering.{numbering, number_in};
 ghost use Rattle.cmm_symbols.specs.Shown.{shown};
 ghost use Rattle.cmm_linkage.specs.Registers.{registers_in, register_shown};
-ghost use Rattle.cmm_linkage.specs.inside.Counted.{AreNamed, counts_after, counted};
+ghost use Rattle.cmm_linkage.specs.inside.Counted.{counted, is_numbered};
 
+use crate::owned::number_of;
 use cmm_ast::{Ident, TypeName};
 use cmm_items::Items;
-use cmm_symbols::{Entry, Index, Named, is_host};
+use cmm_symbols::{Entry, Named, Table};
 use cmm_words::Name;
 use std::alloc::{AllocError, Global};
 
@@ -20,60 +22,47 @@ pub struct Register<'a> {
     pub of_type: &'a TypeName,
 }
 
-/// Whether a declaration is the first of its name and the name none of the host. It is added to those that are.
-fn counts<'a>(
-    alloc: Global,
-    named: &Named<'a, Entry<'a>>,
-    seen: &mut Index<()>,
-) -> Result<bool, AllocError>
-    ensures counts { IfOk result (λ counts. (before : List (Declared UnitEntry)) → AreNamed seen.old before → counts ≡ counts_after before (shown named.now)) }
-    ensures seen { OnOk result ((before : List (Declared UnitEntry)) → AreNamed seen.old before → AreNamed seen.new (before ++ counted before (shown named.now))) }
+/// Whether the declaration with a number is the first of its name and the name none of the host's.
+fn counts<'a>(table: &Table<'a, Entry<'a>>, number: usize, name: &Name) -> bool
+    ensures { result ≡ is_numbered number (number_in (numbering (map shown table.now.declared)) name.now) }
 {
-    let name = named.name.name.as_bytes();
-    if is_host(name) {
-        return Ok(false);
+    match number_of(table, name) {
+        Some(first) => first == number,
+        None => false,
     }
-    let own = Name::from_slice(alloc, name)?;
-    let new = seen.add(own, ())?;
-    Ok(new)
 }
 
-/// Adds a declaration to registers, if it is one.
-fn add_register<'a>(
-    named: &Named<'a, Entry<'a>>,
-    to: &mut Items<Register<'a>>,
-) -> Result<(), AllocError>
-    ensures { OnOk result (map register_shown to.new ≡ map register_shown to.old ++ register_entry (shown named.now)) }
+/// The register that is declared, if one is.
+fn register_of<'a>(named: &Named<'a, Entry<'a>>) -> Option<Register<'a>>
+    ensures { listed (option_map register_shown result) ≡ register_entry (shown named.now) }
 {
     match named.what {
-        Entry::Register(of_type) => {
-            to.push(Register {
-                name: named.name,
-                of_type,
-            })?;
-            Ok(())
-        }
-        Entry::Typedef(_) => Ok(()),
-        Entry::Const(_, _) => Ok(()),
-        Entry::Import(_) => Ok(()),
-        Entry::DataLabel(_) => Ok(()),
-        Entry::Procedure(_, _) => Ok(()),
+        Entry::Register(of_type) => Some(Register {
+            name: named.name,
+            of_type,
+        }),
+        Entry::Typedef(_) => None,
+        Entry::Const(_, _) => None,
+        Entry::Import(_) => None,
+        Entry::DataLabel(_) => None,
+        Entry::Procedure(_, _) => None,
     }
 }
 
-/// Adds a declaration to registers, if it is one and counts.
+/// Adds the declaration with a number to registers, if it is one and counts.
 fn add_counted<'a>(
-    alloc: Global,
+    table: &Table<'a, Entry<'a>>,
+    number: usize,
     named: &Named<'a, Entry<'a>>,
-    seen: &mut Index<()>,
     to: &mut Items<Register<'a>>,
 ) -> Result<(), AllocError>
-    ensures seen { OnOk result ((before : List (Declared UnitEntry)) → AreNamed seen.old before → AreNamed seen.new (before ++ counted before (shown named.now))) }
-    ensures to { OnOk result ((before : List (Declared UnitEntry)) → AreNamed seen.old before → map register_shown to.new ≡ map register_shown to.old ++ flat_map register_entry (counted before (shown named.now))) }
+    ensures { OnOk result (map register_shown to.new ≡ map register_shown to.old ++ flat_map register_entry (counted (map shown table.now.declared) number (shown named.now))) }
 {
-    let new = counts(alloc, named, seen)?;
-    if new {
-        add_register(named, to)?;
+    let Some(register) = register_of(named) else {
+        return Ok(());
+    };
+    if counts(table, number, &named.name.name) {
+        to.push(register)?;
         Ok(())
     } else {
         Ok(())
@@ -83,14 +72,13 @@ fn add_counted<'a>(
 /// The registers of a unit: names that it first declares as registers.
 pub fn registers_in<'a>(
     alloc: Global,
-    declared: &[Named<'a, Entry<'a>>],
+    table: &Table<'a, Entry<'a>>,
 ) -> Result<Items<Register<'a>>, AllocError>
-    ensures { IfOk result (λ registers. map register_shown registers ≡ registers_in (map shown declared.now)) }
+    ensures { IfOk result (λ registers. map register_shown registers ≡ registers_in (map shown table.now.declared)) }
 {
-    let mut seen = Index::new(alloc);
     let mut registers = Items::new(alloc);
-    for named in declared {
-        add_counted(alloc, named, &mut seen, &mut registers)?;
+    for (number, named) in table.declared.as_slice().iter().enumerate() {
+        add_counted(table, number, named, &mut registers)?;
     }
     Ok(registers)
 }

@@ -18,9 +18,8 @@ use Rattle.cmm_elaboration.specs.Data.{datums_among, item_datums, unit_labels}
 use Rattle.cmm_elaboration.specs.Meaning.{item_procedures, labels_from, procedures_from, unit_datums, unit_procedures}
 use Rattle.cmm_elaboration.proofs.Shared.{all_datums, datums_length}
 use Rattle.cmm_lower.specs.Fitting.{ItemFits}
-use Rattle.cmm_checked.specs.Known.{IsKnown}
+use Rattle.cmm_checked.specs.Known.{IsKnown, names_of}
 use Rattle.cmm_checked.specs.declared.unit.CheckedUnit.{CheckedUnit}
-use Rattle.cmm_unit_scope.specs.Senses.{senses_of}
 use Rattle.cmm_lower.specs.inside.Made.{AreParts, FitsBehind}
 
 abbrev pub IsShort : Datum → Type 0
@@ -60,31 +59,31 @@ module _ (program : Linked) (before : List NamedUnit) (u : NamedUnit) (number : 
   items_are : u.items ≡ items_of c.flat
   items_are = fits.items ∙ ap items_of (sym known.tree)
 
-  fitting : All (λ i. ItemFits (senses_of c.senses) i.what) (items_of c.flat)
+  fitting : All (λ i. ItemFits (names_of c) i.what) (items_of c.flat)
   fitting =
-      subst (All (λ i. ItemFits (senses_of c.senses) i.what)) items_are
+      subst (All (λ i. ItemFits (names_of c) i.what)) items_are
       (subst (λ (names : Senses). All (λ i. ItemFits names i.what) u.items) (sym known.senses) fits.procedures)
 
   procs_are : (old new : List Proc) → old ≡ procedures_from program 0 before →
-      (All (λ i. ItemFits (senses_of c.senses) i.what) (items_of c.flat) → new ≡ old ++ flat_map (item_procedures (senses_of c.senses) number) (items_of c.flat)) →
+      (All (λ i. ItemFits (names_of c) i.what) (items_of c.flat) → new ≡ old ++ flat_map (item_procedures (names_of c) number) (items_of c.flat)) →
       new ≡ procedures_from program 0 (before ++ u ∷ [])
   procs_are old new was added =
-      added fitting ∙ ap (λ t. t ++ flat_map (item_procedures (senses_of c.senses) number) (items_of c.flat)) was
+      added fitting ∙ ap (λ t. t ++ flat_map (item_procedures (names_of c) number) (items_of c.flat)) was
       ∙ ap (λ f. procedures_from program 0 before ++ flat_map (item_procedures f number) (items_of c.flat)) known.senses
       ∙ ap (λ is. procedures_from program 0 before ++ flat_map (item_procedures (unit_senses program u.entries) number) is) (sym items_are)
       ∙ ap (λ n. procedures_from program 0 before ++ unit_procedures program n u) (number_is ∙ (let e : length before ≡ 0 + length before = omega arith in e))
       ∙ sym (procs_next program 0 before u)
 
-  data_of : flat_map (item_datums (senses_of c.senses)) (whats (items_of c.flat)) ≡ unit_datums program u
+  data_of : flat_map (item_datums (names_of c)) (whats (items_of c.flat)) ≡ unit_datums program u
   data_of =
-      ap (λ is. flat_map (item_datums (senses_of c.senses)) (whats is)) (sym items_are) ∙ datums_flat (senses_of c.senses) u.items
+      ap (λ is. flat_map (item_datums (names_of c)) (whats is)) (sym items_are) ∙ datums_flat (names_of c) u.items
       ∙ ap (λ f. flat_map (λ i. item_datums f i.what) u.items) known.senses
 
   datums_are : (old new : List Datum) → old ≡ flat_map (unit_datums program) before →
-      (All IsShort (flat_map (item_datums (senses_of c.senses)) (whats (items_of c.flat))) → new ≡ old ++ flat_map (item_datums (senses_of c.senses)) (whats (items_of c.flat))) →
+      (All IsShort (flat_map (item_datums (names_of c)) (whats (items_of c.flat))) → new ≡ old ++ flat_map (item_datums (names_of c)) (whats (items_of c.flat))) →
       new ≡ flat_map (unit_datums program) (before ++ u ∷ [])
   datums_are old new was added =
-      added (subst (All IsShort) (sym data_of) fits.lengths) ∙ ap (λ t. t ++ flat_map (item_datums (senses_of c.senses)) (whats (items_of c.flat))) was
+      added (subst (All IsShort) (sym data_of) fits.lengths) ∙ ap (λ t. t ++ flat_map (item_datums (names_of c)) (whats (items_of c.flat))) was
       ∙ ap (λ t. flat_map (unit_datums program) before ++ t) data_of ∙ sym (datums_next program before u)
 
   labels_are : (old new : List Label) (datums : List Datum) (first : ℕ) → datums ≡ flat_map (unit_datums program) before → (length datums < 2 ^ 32 → first ≡ length datums) →
@@ -104,9 +103,9 @@ module _ (program : Linked) (before : List NamedUnit) (u : NamedUnit) (number : 
 
   pub parts_next : (procs procs' : List Proc) (datums datums' : List Datum) (labels labels' : List Label) (first : ℕ) →
       AreParts program before (record { procs = procs; datums = datums; labels = labels }) →
-      (All (λ i. ItemFits (senses_of c.senses) i.what) (items_of c.flat) → procs' ≡ procs ++ flat_map (item_procedures (senses_of c.senses) number) (items_of c.flat)) →
-      (All IsShort (flat_map (item_datums (senses_of c.senses)) (whats (items_of c.flat))) →
-      datums' ≡ datums ++ flat_map (item_datums (senses_of c.senses)) (whats (items_of c.flat))) →
+      (All (λ i. ItemFits (names_of c) i.what) (items_of c.flat) → procs' ≡ procs ++ flat_map (item_procedures (names_of c) number) (items_of c.flat)) →
+      (All IsShort (flat_map (item_datums (names_of c)) (whats (items_of c.flat))) →
+      datums' ≡ datums ++ flat_map (item_datums (names_of c)) (whats (items_of c.flat))) →
       (length datums < 2 ^ 32 → first ≡ length datums) →
       (first + datums_among (items_of c.flat) < 2 ^ 32 → labels' ≡ labels ++ unit_labels (map (λ e. e.now) c.exports) first c.flat.parts) →
       AreParts program (before ++ u ∷ []) (record { procs = procs'; datums = datums'; labels = labels' })

@@ -5,9 +5,8 @@ use Rattle.std.proofs.lemmas.List.{take-append-drop}
 use Rattle.std.proofs.lemmas.List.Elements.{All-cons, All-nil}
 use Rattle.cmm_static_semantics.specs.Declarations.{NamedUnit}
 use Rattle.cmm_static_semantics.specs.Linking.{Program as Linked}
-use Rattle.cmm_checked.specs.Known.{IsKnown}
+use Rattle.cmm_checked.specs.Known.{IsKnown, names_of}
 use Rattle.cmm_checked.specs.declared.unit.CheckedUnit.{CheckedUnit}
-use Rattle.cmm_unit_scope.specs.Senses.{senses_of}
 use Rattle.cmm_typing.specs.Fitting.{AreWords}
 
 -- what stands beside an item of the second of two lists
@@ -28,9 +27,9 @@ zip_at R (x ∷ xs) (z ∷ zs) (suc k) y zip inside is =
 pub parted : (us : List NamedUnit) (k : ℕ) (u : NamedUnit) → take (k + 1) us ≡ take k us ++ u ∷ [] → us ≡ take k us ++ u ∷ drop (k + 1) us
 parted us k u more = sym (take-append-drop (k + 1) us) ∙ ap (λ t. t ++ drop (k + 1) us) more ∙ append_assoc (take k us) (u ∷ []) (drop (k + 1) us)
 
-pub words_known : (program : Linked) (us : List NamedUnit) (cs : List CheckedUnit) → AllZip (IsKnown program) us cs → All (λ (c : CheckedUnit). AreWords (senses_of c.senses)) cs
-words_known program [] [] known = All-nil (λ (c : CheckedUnit). AreWords (senses_of c.senses))
+pub words_known : (program : Linked) (us : List NamedUnit) (cs : List CheckedUnit) → AllZip (IsKnown program) us cs → All (λ (c : CheckedUnit). AreWords (names_of c)) cs
+words_known program [] [] known = All-nil (λ (c : CheckedUnit). AreWords (names_of c))
 words_known program [] (c ∷ cs) known = absurd known
 words_known program (u ∷ us) [] known = absurd known
 words_known program (u ∷ us) (c ∷ cs) known =
-    All-cons (λ (x : CheckedUnit). AreWords (senses_of x.senses)) c cs known.0.words (words_known program us cs known.1)
+    All-cons (λ (x : CheckedUnit). AreWords (names_of x)) c cs known.0.words (words_known program us cs known.1)

@@ -3,8 +3,7 @@
 ghost use Rattle.std.specs.Prelude.{◌≡◌, ◌∷◌, ◌++◌, ◌<◌, ◌^◌, [], List, length, IfOk};
 ghost use Rattle.cmm_static_semantics.specs.Declarations.{NamedUnit};
 ghost use Rattle.cmm_static_semantics.specs.Linking.{Program as Linked};
-ghost use Rattle.cmm_checked.specs.Known.{IsKnown};
-ghost use Rattle.cmm_unit_scope.specs.Senses.{senses_of};
+ghost use Rattle.cmm_checked.specs.Known.{IsKnown, names_of};
 ghost use Rattle.cmm_lower.specs.inside.Made.{AreParts, FitsBehind};
 ghost use Rattle.cmm_typing.specs.Fitting.{AreWords};
 
@@ -49,7 +48,7 @@ impl Parts {
         number: u32,
         unit: &CheckedUnit<'_>,
     ) -> Result<Parts, AllocError>
-        requires { AreWords (senses_of unit.now.senses) }
+        requires { AreWords (names_of unit.now) }
         ensures { IfOk result (λ next. (program : Linked) (before : List NamedUnit) (u : NamedUnit) → FitsBehind program before u → IsKnown program u unit.now →
             number ≡ length before → AreParts program before self → AreParts program (before ++ u ∷ []) next) }
     {
@@ -58,10 +57,10 @@ impl Parts {
             mut datums,
             mut labels,
         } = self;
-        let names = &unit.senses;
+        let names = unit.names();
         let first = next_datum(&datums);
-        add_procedures(alloc, names, number, &unit.flat, &mut procs)?;
-        add_datums(alloc, names, unit.flat.things(), &mut datums)?;
+        add_procedures(alloc, &names, number, &unit.flat, &mut procs)?;
+        add_datums(alloc, &names, unit.flat.things(), &mut datums)?;
         let links = Links::of(alloc, unit.exports.as_slice())?;
         add_labels(alloc, &links, unit.flat.tree(), first, &mut labels)?;
         Ok(Parts {

@@ -4,8 +4,7 @@ ghost use Rattle.std.specs.Prelude.{◌≡◌, ◌<◌, ◌^◌, List, length, I
 ghost use Rattle.std.specs.List.{All, AllZip};
 ghost use Rattle.cmm_static_semantics.specs.Declarations.{NamedUnit};
 ghost use Rattle.cmm_static_semantics.specs.Linking.{Program as Linked};
-ghost use Rattle.cmm_checked.specs.Known.{IsKnown};
-ghost use Rattle.cmm_unit_scope.specs.Senses.{senses_of};
+ghost use Rattle.cmm_checked.specs.Known.{IsKnown, names_of};
 ghost use Rattle.cmm_linkage.specs.Registers.{AreWidths};
 ghost use Rattle.cmm_elaboration.specs.Laws.{AreRead, TextsAreBytes};
 ghost use Rattle.cmm_elaboration.specs.Meaning.{meaning_of, program_by};
@@ -25,7 +24,7 @@ use std::alloc::{AllocError, Global};
 /// What all units have of the program.
 fn parts_of(alloc: Global, units: &[CheckedUnit<'_>]) -> Result<Parts, AllocError>
     requires few { length units.now < 2 ^ 32 }
-    requires words { All (λ c. AreWords (senses_of c.senses)) units.now }
+    requires words { All (λ c. AreWords (names_of c)) units.now }
     ensures { IfOk result (λ parts. (program : Linked) (us : List NamedUnit) → AllZip (IsKnown program) us units.now → AllFit program us → AreParts program us parts) }
 {
     let mut parts = Parts::none(alloc);
@@ -40,7 +39,7 @@ fn program_of(
     alloc: Global,
     parts: Parts,
     linkage: &Linkage<'_>,
-    widths: &Index<Option<Width>>,
+    widths: &Index<'_, Option<Width>>,
 ) -> Result<Program, AllocError>
     ensures { IfOk result (λ program. (us : List NamedUnit) → AreParts linkage.now us parts → AreWidths widths.now us → program ≡ program_by linkage.now us) }
 {

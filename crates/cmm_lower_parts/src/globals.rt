@@ -20,12 +20,12 @@ use std::alloc::{AllocError, Global};
 fn register_of(
     alloc: Global,
     name: &[u8],
-    widths: &Index<Option<Width>>,
+    widths: &Index<'_, Option<Width>>,
 ) -> Result<Register, AllocError>
     ensures { IfOk result (λ register. register ≡ global_by (indexed widths.now) name.now) }
 {
+    let width = widths.get(name).unwrap_or(None).unwrap_or(Width::W64);
     let name = Name::from_slice(alloc, name)?;
-    let width = widths.get(&name).unwrap_or(None).unwrap_or(Width::W64);
     Ok(Register { name, width })
 }
 
@@ -33,7 +33,7 @@ fn register_of(
 pub fn globals_of(
     alloc: Global,
     names: &[&[u8]],
-    widths: &Index<Option<Width>>,
+    widths: &Index<'_, Option<Width>>,
 ) -> Result<Items<Register>, AllocError>
     ensures each { IfOk result (λ globals. globals ≡ map (global_by (indexed widths.now)) (map (λ n. n.now) names.now)) }
     ensures of_units { IfOk result (λ globals. (us : List NamedUnit) → AreWidths widths.now us → globals ≡ map (meaning.global_of us) (map (λ n. n.now) names.now)) }

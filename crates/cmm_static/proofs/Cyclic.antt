@@ -17,7 +17,8 @@ use Rattle.cmm_symbols.specs.Shown.{shown, entry_shown, with_what}
 use Rattle.cmm_symbols.specs.declared.table.Named.{Named}
 use Rattle.cmm_symbols.specs.declared.entry.Entry.{Entry as EntryTree}
 use Rattle.cmm_symbols.proofs.Shared.{first_of_append, found_with, again_append, rest_next, spot_order}
-use Rattle.cmm_unit_scope.specs.Numbers.{numbering, number_in, entry_at}
+use Rattle.cmm_symbols.specs.Numbering.{numbering, number_in}
+use Rattle.cmm_unit_scope.specs.Numbers.{entry_at}
 use Rattle.cmm_static.specs.inside.Cyclic.{is_dependent, IsNoted, CountsOrIsNoted, AreNoted}
 use Rattle.cmm_static.proofs.FirstUnit.{in_one}
 

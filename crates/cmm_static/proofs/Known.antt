@@ -1,12 +1,9 @@
 -- What is known of units: of one more, and of all that break no rule.
 use Rattle.std.proofs.Common.{◌≡◌, ℕ, ◌+◌, ◌<◌, ◌^◌, length, map, refl, sym, ap, ◌∙◌, subst, List, [], ◌∷◌, ◌++◌, Option, None}
-use Rattle.std.specs.List.{All, AllZip, zip}
-use Rattle.std.proofs.lemmas.List.{length-map, map-append}
-use Rattle.std.proofs.lemmas.List.Elements.{All-head, All-push, All-tail}
+use Rattle.std.specs.List.{AllZip, zip}
+use Rattle.std.proofs.lemmas.List.{length-map}
 use Rattle.cmm_checked.specs.Known.{AreKnown, IsKnown, trees_in}
 use Rattle.cmm_checked.specs.declared.unit.CheckedUnit.{CheckedUnit}
-use Rattle.cmm_unit_scope.specs.Senses.{senses_of}
-use Rattle.cmm_unit_scope.specs.declared.unit_senses.UnitSenses.{UnitSenses}
 use Rattle.cmm_symbols.specs.declared.index.Index.{Index}
 use Rattle.cmm_words.specs.declared.width.Width.{Width}
 use Rattle.cmm_ast.specs.declared.unit.Unit.{Unit as UnitTree}
@@ -16,19 +13,18 @@ use Rattle.cmm_static_semantics.specs.declared.fault.Fault.{Fault}
 use Rattle.cmm_static_semantics.specs.Faults.{AreAccepted, fault_of_all, first_fault, stands_before}
 use Rattle.cmm_static_semantics.specs.Linking.{Program, program_of}
 use Rattle.cmm_static_semantics.specs.Scopes.{unit_senses}
-use Rattle.cmm_static_semantics.specs.Senses.{Senses}
+use Rattle.cmm_static_semantics.specs.declared.sense.Sense.{Sense}
 use Rattle.cmm_static_semantics.specs.Spots.{first_by}
 use Rattle.cmm_linkage.specs.Registers.{AreWidths}
 use Rattle.cmm_static.specs.inside.Flat.{Flat, flat_named, flat_unit, flats_broken, widths_before}
 use Rattle.cmm_static.specs.inside.Linked.{AreFound}
 use Rattle.cmm_static.specs.inside.Totals.{AreSums}
-use Rattle.cmm_static.specs.inside.Units.{AreEarlier, checked_unit, flat_senses, unit_flat}
+use Rattle.cmm_static.specs.inside.Units.{AreEarlier, AreSensed, checked_unit, unit_flat}
 use Rattle.cmm_static.specs.declared.earlier.Earlier.{Earlier}
 use Rattle.cmm_static.specs.declared.sums.Sums.{Sums}
 use Rattle.cmm_static.specs.declared.unit_names.UnitNames.{UnitNames}
 use Rattle.cmm_static.proofs.Checked.{first_found, named_together}
 use Rattle.cmm_static.proofs.Totals.{sums_of_units}
-use Rattle.cmm_typing.specs.Fitting.{AreWords}
 use Rattle.cmm_static.proofs.FlatUnits.{widths_flat}
 
 -- the widths of registers of units laid flat
@@ -37,16 +33,16 @@ widths_of_units us fs registers same are name = are name ∙ ap (λ (q : List Fl
 
 -- ---- what is known of one more unit
 
-pub senses_next : (program : Program) (before : List Flat) (f : Flat) (old new : List UnitSenses) (s : UnitSenses) → new ≡ old ++ s ∷ [] → senses_of s ≡ unit_senses program f.entries →
-    map senses_of old ≡ map (flat_senses program) before → map senses_of new ≡ map (flat_senses program) (before ++ f ∷ [])
-senses_next program before f old new s is means known =
-    ap (map senses_of) is ∙ map-append senses_of old (s ∷ []) ∙ ap (λ t. t ++ senses_of s ∷ []) known
-    ∙ ap (λ (n : Senses). map (flat_senses program) before ++ n ∷ []) means ∙ sym (map-append (flat_senses program) before (f ∷ []))
+zip_push : {A B : Type 0} (P : A → B → Type 0) (xs : List A) (ys : List B) (x : A) (y : B) → AllZip P xs ys → P x y → AllZip P (xs ++ x ∷ []) (ys ++ y ∷ [])
+zip_push P [] [] x y known here = (here, tt)
+zip_push P [] (w ∷ ys) x y known here = absurd known
+zip_push P (v ∷ xs) [] x y known here = absurd known
+zip_push P (v ∷ xs) (w ∷ ys) x y known here = (known.0, zip_push P xs ys x y known.1 here)
 
-pub words_next : (old new : List UnitSenses) (s : UnitSenses) → new ≡ old ++ s ∷ [] → AreWords (senses_of s) → All (λ (n : UnitSenses). AreWords (senses_of n)) old →
-    All (λ (n : UnitSenses). AreWords (senses_of n)) new
-words_next old new s is words known =
-    subst (All (λ (n : UnitSenses). AreWords (senses_of n))) (sym is) (All-push (λ (n : UnitSenses). AreWords (senses_of n)) old s known words)
+pub senses_next : (program : Program) (before : List Flat) (f : Flat) (old new : List (List Sense)) (ss : List Sense) → new ≡ old ++ ss ∷ [] → AreSensed program f ss →
+    AllZip (AreSensed program) before old → AllZip (AreSensed program) (before ++ f ∷ []) new
+senses_next program before f old new ss is here known =
+    subst (λ (q : List (List Sense)). AllZip (AreSensed program) (before ++ f ∷ []) q) (sym is) (zip_push (AreSensed program) before old f ss known here)
 
 -- ---- units of which none breaks a rule of its own
 
@@ -59,14 +55,13 @@ named_of_all us program fs s fault are knows none sums by_sums =
 
 -- ---- units that break no rule, each with what its names mean
 
-each_known : (program : Program) (us : List NamedUnit) (named : List UnitNames) (senses : List UnitSenses) → map unit_flat named ≡ map flat_unit us →
-    map senses_of senses ≡ map (flat_senses program) (map unit_flat named) → All (λ (s : UnitSenses). AreWords (senses_of s)) senses →
-    AllZip (IsKnown program) us (map checked_unit (zip named senses))
-each_known program [] [] senses flat known words = tt
-each_known program [] (n ∷ ns) senses flat known words = cc
-each_known program (u ∷ us) [] senses flat known words = cc
-each_known program (u ∷ us) (n ∷ ns) [] flat known words = cc
-each_known program (u ∷ us) (n ∷ ns) (s ∷ ss) flat known words = (here, each_known program us ns ss flats knowns (All-tail (λ (s : UnitSenses). AreWords (senses_of s)) s ss words))
+each_known : (program : Program) (us : List NamedUnit) (named : List UnitNames) (senses : List (List Sense)) → map unit_flat named ≡ map flat_unit us →
+    AllZip (AreSensed program) (map unit_flat named) senses → AllZip (IsKnown program) us (map checked_unit (zip named senses))
+each_known program [] [] senses flat known = tt
+each_known program [] (n ∷ ns) senses flat known = cc
+each_known program (u ∷ us) [] senses flat known = cc
+each_known program (u ∷ us) (n ∷ ns) [] flat known = absurd known
+each_known program (u ∷ us) (n ∷ ns) (ss ∷ rest) flat known = (here, each_known program us ns rest flats known.1)
   where
     same : unit_flat n ≡ flat_unit u
     same = cc
@@ -74,18 +69,12 @@ each_known program (u ∷ us) (n ∷ ns) (s ∷ ss) flat known words = (here, ea
     flats : map unit_flat ns ≡ map flat_unit us
     flats = cc
 
-    means : senses_of s ≡ flat_senses program (unit_flat n)
-    means = cc
-
-    knowns : map senses_of ss ≡ map (flat_senses program) (map unit_flat ns)
-    knowns = cc
-
-    here : IsKnown program u (checked_unit (n, s))
+    here : IsKnown program u (checked_unit (n, ss))
     here = record {
       tree = ap (λ (f : Flat). f.tree) same;
       exports = ap (λ (f : Flat). f.exports) same;
-      senses = means ∙ ap (λ (f : Flat). unit_senses program f.entries) same;
-      words = All-head (λ (s : UnitSenses). AreWords (senses_of s)) s ss words;
+      senses = known.0.means ∙ ap (λ (f : Flat). unit_senses program f.entries) same;
+      words = known.0.words;
     }
 
 trees_known : (program : Program) (us : List NamedUnit) (cs : List CheckedUnit) → AllZip (IsKnown program) us cs → trees_in cs ≡ map (λ u. u.tree) us
@@ -116,7 +105,7 @@ all_known us program named e checked few accepted flat knows known are = (
 )
   where
     each : AllZip (IsKnown program) (named_units us) checked
-    each = subst (AllZip (IsKnown program) (named_units us)) (sym are) (each_known program (named_units us) named e.senses flat known.senses known.words)
+    each = subst (AllZip (IsKnown program) (named_units us)) (sym are) (each_known program (named_units us) named e.senses flat known.senses)
 
     trees : trees_in checked ≡ us
     trees = trees_known program (named_units us) checked each ∙ trees_named 0 0 us

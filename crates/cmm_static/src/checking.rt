@@ -19,9 +19,8 @@ use cmm_ast::{Place, Unit};
 use cmm_checked::{Checked, CheckedUnit};
 use cmm_items::Items;
 use cmm_linkage::{Gathered, Linkage};
-use cmm_static_semantics::{Fault, Spot};
+use cmm_static_semantics::{Fault, Sense, Spot};
 use cmm_symbols::Numbers;
-use cmm_unit_scope::UnitSenses;
 use std::alloc::{AllocError, Global};
 
 /// Where a rule is broken: in which unit, from 0, and where in it.
@@ -137,20 +136,26 @@ fn unbroken<'a>(
     }
 }
 
-/// Units that break no rule, each with what its names mean.
+/// Units that break no rule, each with what its declarations mean.
 fn with_senses<'a>(
     alloc: Global,
     named: Items<UnitNames<'a>>,
-    senses: Items<UnitSenses<'a>>,
+    senses: Items<Items<Sense>>,
 ) -> Result<Items<CheckedUnit<'a>>, AllocError>
-    ensures { IfOk result (λ units. units ≡ map checked_unit (zip named.entry senses.entry)) }
+    ensures { IfOk result (λ units. units ≡ map checked_unit (zip named.entry senses)) }
 {
     let mut units = Items::new(alloc);
     for (names, senses) in named.into_vec().into_iter().zip(senses.into_vec()) {
-        let UnitNames { flat, exports, .. } = names;
+        let UnitNames {
+            flat,
+            exports,
+            table,
+            ..
+        } = names;
         units.push(CheckedUnit {
             flat,
             exports,
+            table,
             senses,
         })?;
     }

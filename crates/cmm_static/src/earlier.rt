@@ -6,8 +6,8 @@ ghost use Rattle.cmm_static.specs.inside.Units.{AreEarlier};
 
 use crate::sums::Sums;
 use cmm_items::Items;
+use cmm_static_semantics::Sense;
 use cmm_symbols::Index;
-use cmm_unit_scope::UnitSenses;
 use cmm_words::Width;
 use std::alloc::Global;
 
@@ -15,11 +15,11 @@ use std::alloc::Global;
 #[derive(Drop)]
 pub(crate) struct Earlier<'a> {
     /// The names under which they export something.
-    pub links: Index<()>,
+    pub links: Index<'a, ()>,
     /// Their registers, with the width of the first of each name, if that is not broken.
-    pub registers: Index<Option<Width>>,
-    /// What the names of each of them mean.
-    pub senses: Items<UnitSenses<'a>>,
+    pub registers: Index<'a, Option<Width>>,
+    /// What the declarations of each of them mean, by their numbers.
+    pub senses: Items<Items<Sense>>,
     /// What the limits over all units count of them.
     pub sums: Sums,
 }

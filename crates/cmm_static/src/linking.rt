@@ -14,8 +14,7 @@ use cmm_linkage::{Linkage, entry_of, export_link, import_link};
 use cmm_rules::Rule;
 use cmm_static_semantics::Spot;
 use cmm_symbols::{Entry, Index, Named, Table, is_host, unless};
-use cmm_words::Name;
-use std::alloc::{AllocError, Global};
+use std::alloc::AllocError;
 
 /// Whether it can be exported.
 fn has_address<'a>(entry: &Option<Entry<'a>>) -> bool
@@ -55,17 +54,15 @@ pub(crate) fn note_exports<'a>(
 
 /// Notes names that are exported a second time, in this unit or after earlier ones, whose link names are added to: rule 35.
 pub(crate) fn note_twice<'a>(
-    alloc: Global,
     exports: &[&'a Export],
-    earlier: &mut Index<()>,
+    earlier: &mut Index<'a, ()>,
     best: &mut Option<Spot>,
 ) -> Result<(), AllocError>
     ensures links { OnOk result ((before : List (List ℕ)) → AreLinks earlier.old before → AreLinks earlier.new (before ++ map export_link (map (λ e. e.now) exports.now))) }
     ensures best { OnOk result ((before : List (List ℕ)) → AreLinks earlier.old before → best.new ≡ first_of best.old (twice before (map (λ e. e.now) exports.now))) }
 {
     for export in exports {
-        let link = Name::from_slice(alloc, export_link(export))?;
-        let new = earlier.add(link, ())?;
+        let new = earlier.add(export_link(export), ())?;
         unless(best, new, Rule::ExportedTwice, export.name.token);
     }
     Ok(())

@@ -17,20 +17,20 @@ use cmm_static_semantics::Spot;
 use cmm_symbols::Index;
 use cmm_typing::{note_width, width_of};
 use cmm_unit_scope::Types;
-use cmm_words::{Name, Width};
-use std::alloc::{AllocError, Global};
+use cmm_words::Width;
+use std::alloc::AllocError;
 
 /// A register has the width of the first one of its name in earlier units: else rule 23.
 fn note_register<'a>(
-    types: &Types<'a>,
+    types: &Types<'_, 'a>,
     register: Register<'a>,
-    earlier: &Index<Option<Width>>,
+    earlier: &Index<'_, Option<Width>>,
     best: &mut Option<Spot>,
 )
     ensures { (before : List (Declared (Option Width))) → AreFound earlier.now before →
         best.new ≡ first_of best.old (register_spots_by before (λ t. if_ok (type_width (senses_of types.now) t)) (register_shown register.entry)) }
 {
-    match earlier.get(&register.name.name) {
+    match earlier.get(register.name.name.as_bytes()) {
         Some(first) => match first {
             Some(width) => note_width(
                 width.bits(),
@@ -46,9 +46,9 @@ fn note_register<'a>(
 
 /// Notes registers of another width than in earlier units: rule 23.
 pub(crate) fn note_registers<'a>(
-    types: &Types<'a>,
+    types: &Types<'_, 'a>,
     registers: &[Register<'a>],
-    earlier: &Index<Option<Width>>,
+    earlier: &Index<'_, Option<Width>>,
     best: &mut Option<Spot>,
 )
     ensures { (before : List (Declared (Option Width))) → AreFound earlier.now before →
@@ -61,17 +61,16 @@ pub(crate) fn note_registers<'a>(
 
 /// Adds the registers of a unit, with their widths, to those of earlier units.
 pub(crate) fn add_registers<'a>(
-    alloc: Global,
-    types: &Types<'a>,
+    types: &Types<'_, 'a>,
     registers: &[Register<'a>],
-    earlier: &mut Index<Option<Width>>,
+    earlier: &mut Index<'a, Option<Width>>,
 ) -> Result<(), AllocError>
     ensures { OnOk result ((before : List (Declared (Option Width))) → AreFound earlier.old before →
         AreFound earlier.new (before ++ widths_by (λ t. if_ok (type_width (senses_of types.now) t)) (map register_shown registers.now))) }
 {
     for register in registers {
-        let name = Name::from_slice(alloc, register.name.name.as_bytes())?;
-        earlier.add(name, width_of(types, register.of_type))?;
+        let width = width_of(types, register.of_type);
+        earlier.add(register.name.name.as_bytes(), width)?;
     }
     Ok(())
 }

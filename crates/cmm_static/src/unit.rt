@@ -31,7 +31,7 @@ use cmm_proc_scope::FlatUnit;
 use cmm_static_semantics::Spot;
 use cmm_symbols::{Index, Numbers, Table, declared_in, exports_in, note_things};
 use cmm_typing::Names;
-use cmm_unit_scope::{dependencies_of, senses_of_unit, types_of};
+use cmm_unit_scope::{UnitSenses, dependencies_of, senses_of_unit, types_of};
 use std::alloc::{AllocError, Global};
 
 /// A unit laid flat, from the numbers of its first procedure and data label on.
@@ -61,7 +61,7 @@ fn first_of_names<'a>(
     alloc: Global,
     unit: &UnitNames<'a>,
     linkage: &Linkage<'a>,
-    links: &mut Index<()>,
+    links: &mut Index<'a, ()>,
 ) -> Result<Option<Spot>, AllocError>
     ensures links { OnOk result ((before : List (List ℕ)) → AreLinks links.old before → AreLinks links.new (before ++ flat_links (unit_flat unit.now))) }
     ensures best { IfOk result (λ best. (before : List (List ℕ)) → AreLinks links.old before → best ≡ first_of None (flat_name_spots (exported_links linkage.now) before (unit_flat unit.now))) }
@@ -72,7 +72,7 @@ fn first_of_names<'a>(
     let things = unit.flat.things();
     note_hosts(declared, &mut best);
     note_exports(&unit.table, exports, &mut best);
-    note_twice(alloc, exports, links, &mut best)?;
+    note_twice(exports, links, &mut best)?;
     note_imports(linkage, declared, &mut best);
     note_targets(things, &mut best);
     note_things(alloc, things, &mut best)?;
@@ -108,18 +108,21 @@ pub(crate) fn first_broken<'a>(
     ensures best { IfOk result (λ best. (before : List Flat) → AreEarlier linkage.now earlier.old before → best ≡ first_of None (flat_spots linkage.now before (unit_flat unit.now))) }
 {
     let mut best = first_of_names(alloc, unit, linkage, &mut earlier.links)?;
-    let declared = unit.table.declared.as_slice();
+    let table = &unit.table;
+    let declared = table.declared.as_slice();
     let things = unit.flat.things();
-    let types = types_of(alloc, declared)?;
-    let dependencies = dependencies_of(alloc, declared)?;
-    let senses = senses_of_unit(alloc, linkage, declared, &types, &dependencies)?;
-    note_entries(&senses, declared, &mut best);
-    note_items(&senses, things, &mut best);
-    let registers = registers_in(alloc, declared)?;
+    let types = types_of(alloc, table)?;
+    let dependencies = dependencies_of(alloc, table)?;
+    let meanings = senses_of_unit(alloc, linkage, table, &types, &dependencies)?;
+    let senses = meanings.as_slice();
+    let names = UnitSenses { table, senses };
+    note_entries(&names, declared, &mut best);
+    note_items(&names, things, &mut best);
+    let registers = registers_in(alloc, table)?;
     note_registers(&types, registers.as_slice(), &earlier.registers, &mut best);
     note_cycles(alloc, &dependencies, declared, &mut best)?;
-    note_and_count(alloc, &senses, &unit.flat, &mut best, &mut earlier.sums)?;
-    add_registers(alloc, &types, registers.as_slice(), &mut earlier.registers)?;
-    earlier.senses.push(senses)?;
+    note_and_count(alloc, &names, &unit.flat, &mut best, &mut earlier.sums)?;
+    add_registers(&types, registers.as_slice(), &mut earlier.registers)?;
+    earlier.senses.push(meanings)?;
     Ok(best)
 }

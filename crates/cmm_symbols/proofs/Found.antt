@@ -57,16 +57,11 @@ again_with f e (d ∷ ds) =
     map_last [] = refl
     map_last (x ∷ e) = ap (λ t. with_what f x ∷ t) (map_last e)
 
--- the table after one more declaration
-pub found_next : {E : Type 0} (x : List ℕ) (ns : List (Named E)) (i : ℕ) (m : Named E) → i < length ns → m ≡ get_or ns i m →
-    or_else (found x (map named (take i ns))) (bytes_eq x m.name.now.name) m.what ≡ found x (map named (take (i + 1) ns))
-found_next x ns i m within is = sym (ap (found x) (mapped_next named ns i m within is) ∙ found_push x (map named (take i ns)) (named m))
-
 -- the first fault after one more declaration
-pub again_next : {E : Type 0} (best : Option Spot) (ns : List (Named E)) (i : ℕ) (m : Named E) → i < length ns → m ≡ get_or ns i m →
+pub again_pushed : {E : Type 0} (best : Option Spot) (ns : List (Named E)) (i : ℕ) (m : Named E) → i < length ns → m ≡ get_or ns i m →
     first_of (first_of best (again [] (map named (take i ns)))) (unless (not (is_there (found m.name.now.name (map named (take i ns))))) DeclaredTwice m.name.now.token)
     ≡ first_of best (again [] (map named (take (i + 1) ns)))
-again_next best ns i m within is =
+again_pushed best ns i m within is =
     sym (first_of_append best (again [] (map named (take i ns))) (unless (not (is_there (found m.name.now.name (map named (take i ns))))) DeclaredTwice m.name.now.token))
     ∙ ap (first_of best) (sym (ap (again []) (mapped_next named ns i m within is) ∙ again_append [] (map named (take i ns)) (named m ∷ [])
     ∙ ap (λ t. again [] (map named (take i ns)) ++ t) (append-nil (unless (not (is_there (found m.name.now.name (map named (take i ns))))) DeclaredTwice m.name.now.token))))

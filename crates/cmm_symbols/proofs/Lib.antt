@@ -1,6 +1,8 @@
 pub mod Firsts
 pub mod Lengths
 pub mod Found
+pub mod Positions
+pub mod Indexing
 pub mod Flattening
 pub mod Nested
 pub mod Mentioned

@@ -134,9 +134,9 @@ past : {A : Type 0} (before : A → A → Bool) → IsOrder before → (a b c : 
 past before order a b c h i = false_from_ne_true (before c a) (λ first. by first (order.three c b))
   where
     by : before c a ≡ true → Three before (λ x y. x ≡ y) c b → ⊥
-    by first (inl sooner) = both_ways (before c b) sooner i
-    by first (inr (inl same)) = both_ways (before b a) (ap (λ x. before x a) (sym same) ∙ first) h
-    by first (inr (inr later)) = both_ways (before b a) (order.through b c a later first) h
+    by first (inl sooner) = both_ways (before c b) i sooner
+    by first (inr (inl same)) = both_ways (before b a) h (ap (λ x. before x a) (sym same) ∙ first)
+    by first (inr (inr later)) = both_ways (before b a) h (order.through b c a later first)
 
 sooner_assoc : {A : Type 0} (before : A → A → Bool) → IsOrder before → (o p q : Option A) → sooner_by before (sooner_by before o p) q ≡ sooner_by before o (sooner_by before p q)
 sooner_assoc before order None p q = refl

@@ -1,4 +1,5 @@
 pub mod Shown
+pub mod Numbering
 pub mod Indexed
 pub mod Noted
 pub mod inside

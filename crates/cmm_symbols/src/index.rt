@@ -4,19 +4,18 @@ ghost use Rattle.std.specs.Prelude.{◌≡◌, List, ℕ, bytes_eq, None, not, I
 ghost use Rattle.cmm_static_semantics.specs.Senses.{is_there};
 ghost use Rattle.cmm_symbols.specs.Indexed.{indexed, or_else};
 
-use cmm_words::Name;
 use indexmap::IndexMap;
 use std::alloc::{AllocError, Global};
 
-/// Something for each of some names, what it was first given.
+/// Something for each of some names, what it was first given. Names stand in the units that they are of.
 #[derive(Drop)]
-pub struct Index<E> {
-    pub table: IndexMap<Name, E>,
+pub struct Index<'a, E> {
+    pub table: IndexMap<&'a [u8], E>,
 }
 
-impl<E: Copy + Drop> Index<E> {
+impl<'a, E: Copy + Drop> Index<'a, E> {
     /// No names.
-    pub fn new(alloc: Global) -> Index<E>
+    pub fn new(alloc: Global) -> Index<'a, E>
         ensures { (x : List ℕ) → indexed result x ≡ None }
     {
         Index {
@@ -25,7 +24,7 @@ impl<E: Copy + Drop> Index<E> {
     }
 
     /// What a name was given, if anything.
-    pub fn get(&self, name: &Name) -> Option<E>
+    pub fn get(&self, name: &[u8]) -> Option<E>
         ensures { result ≡ indexed self.now name.now }
     {
         match self.table.get(name) {
@@ -35,11 +34,11 @@ impl<E: Copy + Drop> Index<E> {
     }
 
     /// Gives a name something, if it has nothing. The answer is whether it had nothing.
-    pub fn add(&mut self, name: Name, next: E) -> Result<bool, AllocError>
-        ensures new { IfOk result (λ new. new ≡ not (is_there (indexed self.old name))) }
-        ensures names { OnOk result ((x : List ℕ) → indexed self.new x ≡ or_else (indexed self.old x) (bytes_eq x name) next) }
+    pub fn add(&mut self, name: &'a [u8], next: E) -> Result<bool, AllocError>
+        ensures new { IfOk result (λ new. new ≡ not (is_there (indexed self.old name.now))) }
+        ensures names { OnOk result ((x : List ℕ) → indexed self.new x ≡ or_else (indexed self.old x) (bytes_eq x name.now) next) }
     {
-        if self.get(&name).is_some() {
+        if self.get(name).is_some() {
             return Ok(false);
         }
         self.table.insert(name, next)?;

@@ -4,6 +4,7 @@ ghost use Rattle.std.specs.Prelude.{◌≡◌, List, ℕ, [], map, IfOk, OnOk};
 ghost use Rattle.cmm_static_semantics.specs.Declarations.{found, again};
 ghost use Rattle.cmm_static_semantics.specs.Spots.{first_of};
 ghost use Rattle.cmm_symbols.specs.Indexed.{indexed};
+ghost use Rattle.cmm_symbols.specs.Numbering.{numbering};
 ghost use Rattle.cmm_symbols.specs.Shown.{named};
 
 use crate::index::Index;
@@ -22,12 +23,12 @@ pub struct Named<'a, E> {
     pub what: E,
 }
 
-/// Declarations in textual order, of which the first of each name is found.
+/// Declarations in textual order, of which the first of each name is found, by its number.
 #[derive(Drop)]
 pub struct Table<'a, E> {
     pub declared: Items<Named<'a, E>>,
-    pub index: Index<E>,
-    ghost tied: { (x : List ℕ) → indexed index x ≡ found x (map named declared) },
+    pub index: Index<'a, usize>,
+    ghost tied: { (x : List ℕ) → indexed index x ≡ found x (numbering (map named declared)) },
 }
 
 impl<'a, E: Copy + Drop> Table<'a, E> {
@@ -41,18 +42,27 @@ impl<'a, E: Copy + Drop> Table<'a, E> {
         ensures again { OnOk result (best.new ≡ first_of best.old (again [] (map named declared.entry))) }
     {
         let mut index = Index::new(alloc);
-        for named in declared.as_slice() {
-            let name = Name::from_slice(alloc, named.name.name.as_bytes())?;
-            let new = index.add(name, named.what)?;
+        for (number, named) in declared.as_slice().iter().enumerate() {
+            let new = index.add(named.name.name.as_bytes(), number)?;
             unless(best, new, Rule::DeclaredTwice, named.name.token);
         }
         Ok(Table { declared, index })
+    }
+
+    /// The number of what a name is first declared as, counted from 0.
+    pub fn number(&self, name: &Name) -> Option<usize>
+        ensures { result ≡ found name.now (numbering (map named self.now.declared)) }
+    {
+        self.index.get(name.as_bytes())
     }
 
     /// What a name is first declared as.
     pub fn find(&self, name: &Name) -> Option<E>
         ensures { result ≡ found name.now (map named self.now.declared) }
     {
-        self.index.get(name)
+        match self.number(name) {
+            Some(number) => Some(self.declared.as_slice()[number].what),
+            None => None,
+        }
     }
 }

@@ -15,7 +15,8 @@ use Rattle.cmm_symbols.specs.Shown.{with_what}
 use Rattle.cmm_symbols.proofs.Shared.{found_with}
 use Rattle.cmm_digraph.specs.Graphs.{is_graph, are_below, mentions}
 use Rattle.cmm_digraph.specs.Reaching.{reaches, comes_back}
-use Rattle.cmm_unit_scope.specs.Numbers.{numbering, number_in, entry_at}
+use Rattle.cmm_symbols.specs.Numbering.{numbering, number_in}
+use Rattle.cmm_unit_scope.specs.Numbers.{entry_at}
 use Rattle.cmm_unit_scope.proofs.Numbering.{found_numbering, found_below, IsBelow, host_below}
 use Rattle.cmm_unit_scope.specs.Depending.{numbers_of, mentioned_by, graph_by, graph_of}
 

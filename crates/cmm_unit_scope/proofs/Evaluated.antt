@@ -1,28 +1,28 @@
 -- The widths of typedefs, from those of the declarations that they name.
-use Rattle.std.proofs.Common.{◌≡◌, ℕ, suc, zero, ◌+◌, ◌<◌, ◌≤◌, ◌==◌, Bool, true, false, ◌||◌, ◌&&◌, List, [], ◌∷◌, ◌++◌, length, map, take, get_or, replicate, set, Option, Some, None, refl, sym, ◌∙◌, ap, subst, arith}
+use Rattle.std.proofs.Common.{◌≡◌, ℕ, suc, zero, ◌+◌, ◌<◌, ◌≤◌, ◌==◌, Bool, true, false, ◌||◌, List, [], ◌∷◌, length, take, get_or, replicate, set, Option, Some, None, refl, sym, ◌∙◌, ap, subst, arith}
 use Rattle.std.specs.Prelude.{option_and_then, nat_lt}
 use Rattle.std.specs.List.{list_all}
 use Rattle.std.proofs.Math.Path.{fun_ext}
 use Rattle.std.proofs.lemmas.Bool.{and_parts, lt-ltb, eqb-true, eq-eqb, ltb-true}
 use Rattle.std.proofs.lemmas.Bool.Decides.{nat_tests}
-use Rattle.std.proofs.lemmas.List.{length-map, get_or-replicate, get_or_past, length-replicate, length-set}
+use Rattle.std.proofs.lemmas.List.{length-map, get_or-replicate, get_or_past, length-replicate}
 use Rattle.std.proofs.lemmas.List.Folds.{list_all-append}
 use Rattle.cmm_words.specs.declared.width.Width.{Width}
 use Rattle.cmm_ast.specs.declared.expression.TypeName.{TypeName}
 use Rattle.cmm_ast.specs.declared.expression.TypeForm.{TypeForm}
 use Rattle.cmm_ast.specs.declared.expression.TypeForm.TheVariants.{Bits as OfBits, Named as OfName}
-use Rattle.cmm_static_semantics.specs.declared.sense.Sense.{Sense}
 use Rattle.cmm_static_semantics.specs.declared.sense.Sense.TheVariants as senses
 use Rattle.cmm_static_semantics.specs.Senses.{is_host}
-use Rattle.cmm_static_semantics.specs.Judging.{Judged, if_ok}
+use Rattle.cmm_static_semantics.specs.Judging.{if_ok}
 use Rattle.cmm_static_semantics.specs.Typing.{typedef_width}
 use Rattle.cmm_static_semantics.specs.Mentions.{listed}
-use Rattle.cmm_static_semantics.specs.Declarations.{Declared, Entry, Typedef, Const, Register, Import, DataLabel, Procedure, found, entry_of}
+use Rattle.cmm_static_semantics.specs.Declarations.{Declared, Entry, Typedef, Const, Register, Import, DataLabel, Procedure, found}
 use Rattle.cmm_static_semantics.specs.Scopes.{type_in, width_in, typedef_sense}
 use Rattle.cmm_digraph.specs.Graphs.{is_among, are_below, is_graph, mentions}
 use Rattle.cmm_digraph.specs.Peeled.{IsPeeled}
-use Rattle.cmm_digraph.proofs.Shared.{IsLocal, AreSteps, final_in_order, left_as_begun, AreSet, set_next, set_all, below_index, all_from, below_wider}
-use Rattle.cmm_unit_scope.specs.Numbers.{numbering, number_in, type_number, entry_at}
+use Rattle.cmm_digraph.proofs.Shared.{IsLocal, AreSteps, final_in_order, left_as_begun, AreSet, set_next, set_all, below_index}
+use Rattle.cmm_symbols.specs.Numbering.{numbering, number_in}
+use Rattle.cmm_unit_scope.specs.Numbers.{type_number, entry_at}
 use Rattle.cmm_unit_scope.specs.inside.Numbers.{entry_number, type_graph, width_at, type_by, entry_by}
 use Rattle.cmm_unit_scope.specs.inside.Widths.{entry_in, value_in, AreWidths, AreSettled}
 use Rattle.cmm_unit_scope.proofs.Numbering.{found_numbering, found_below, IsBelow, host_below}

@@ -30,7 +30,7 @@ use Rattle.cmm_static_semantics.specs.Scopes.{entry_sense, valued, untyped_sense
 use Rattle.cmm_static_semantics.specs.Linking.{Program}
 use Rattle.cmm_digraph.specs.Graphs.{is_among}
 use Rattle.cmm_digraph.proofs.Shared.{among_first, among_later}
-use Rattle.cmm_unit_scope.specs.Numbers.{numbering, number_in}
+use Rattle.cmm_symbols.specs.Numbering.{numbering, number_in}
 use Rattle.cmm_unit_scope.specs.Depending.{mentioned_by}
 use Rattle.cmm_unit_scope.proofs.Listed.{const_numbers}
 use Rattle.cmm_unit_scope.specs.inside.Numbered.{numbers_in}

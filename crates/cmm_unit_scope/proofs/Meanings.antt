@@ -1,20 +1,19 @@
 -- What declarations mean as types.
-use Rattle.std.proofs.Common.{◌≡◌, ℕ, suc, zero, ◌+◌, ◌<◌, Bool, true, false, List, [], ◌∷◌, ◌++◌, length, map, take, get_or, Option, Some, None, option_map, refl, sym, ◌∙◌, ap, arith}
+use Rattle.std.proofs.Common.{◌≡◌, ℕ, suc, zero, ◌<◌, Bool, true, false, List, [], ◌∷◌, length, map, get_or, Option, Some, None, refl, sym, ◌∙◌, ap, arith}
 use Rattle.std.specs.Prelude.{option_and_then}
-use Rattle.std.proofs.lemmas.Simd.{map-map}
 use Rattle.cmm_words.specs.declared.width.Width.{Width}
 use Rattle.cmm_static_semantics.specs.declared.sense.Sense.{Sense}
 use Rattle.cmm_static_semantics.specs.Senses.{is_host}
-use Rattle.cmm_static_semantics.specs.Declarations.{Declared, Entry, Typedef, Const, Register, Import, DataLabel, Procedure, found, entry_of}
-use Rattle.cmm_static_semantics.specs.Scopes.{width_in}
-use Rattle.cmm_symbols.specs.Shown.{named, shown, with_what, entry_shown}
+use Rattle.cmm_static_semantics.specs.Declarations.{Declared, Entry, Typedef, Const, Register, Import, DataLabel, Procedure, found}
+use Rattle.cmm_symbols.specs.Numbering.{numbering, number_in}
+use Rattle.cmm_symbols.specs.Shown.{shown, entry_shown}
 use Rattle.cmm_symbols.specs.declared.table.Named.{Named}
 use Rattle.cmm_symbols.specs.declared.entry.Entry.{Entry as EntryTree}
-use Rattle.cmm_symbols.proofs.Shared.{found_with}
-use Rattle.cmm_unit_scope.specs.Types.{type_sense, type_senses}
+use Rattle.cmm_unit_scope.specs.Types.{sense_at, type_sense, type_senses}
 use Rattle.cmm_unit_scope.specs.inside.Numbers.{sense_by, width_at}
-use Rattle.cmm_unit_scope.specs.inside.Widths.{entry_in, value_in, AreWidths}
+use Rattle.cmm_unit_scope.specs.inside.Widths.{entry_in, AreWidths}
 use Rattle.cmm_unit_scope.specs.Numbers.{entry_at}
+use Rattle.cmm_unit_scope.proofs.Numbering.{found_numbering}
 
 -- the declaration with a number, as it is listed
 pub entry_listed : (ds : List (Named EntryTree)) (k : ℕ) (d : Named EntryTree) → k < length ds → d ≡ get_or ds k d → entry_at (map shown ds) k ≡ Some (entry_shown d.what)
@@ -36,19 +35,23 @@ sense_listed ds widths k d are lt is =
     entry_sense (map shown ds) (entry_shown d.what) (width_at widths k)
     (are k ∙ ap (option_and_then (entry_in (suc (length (map shown ds))) (map shown ds))) (entry_listed ds k d lt is))
 
-flat_sense : (ds : List (Declared Entry)) (o : Option Entry) → option_and_then (λ sense. sense) (option_map (λ e. type_sense ds (Some e)) o) ≡ type_sense ds o
-flat_sense ds None = refl
-flat_sense ds (Some e) = refl
+-- what the declaration with a number means
+sense_numbered : (ds : List (Declared Entry)) (rest : List (Named EntryTree)) (number : ℕ) →
+    sense_at (map (λ n. type_sense ds (Some (entry_shown n.what))) rest) number ≡ type_sense ds (entry_at (map shown rest) number)
+sense_numbered ds [] number = refl
+sense_numbered ds (d ∷ rest) zero = refl
+sense_numbered ds (d ∷ rest) (suc number) = sense_numbered ds rest number
 
-own : (host : Bool) (ds : List (Declared Entry)) (o : Option Entry) (p : Option (Option Sense)) → p ≡ option_map (λ e. type_sense ds (Some e)) o →
-    elim host as (λ _. Option Sense) [ true ↦ None | false ↦ option_and_then (λ sense. sense) p ] ≡ type_sense ds (elim host as (λ _. Option Entry) [ true ↦ None | false ↦ o ])
+own : (host : Bool) (ds : List (Named EntryTree)) (o : Option ℕ) (p : Option Entry) → option_and_then (entry_at (map shown ds)) o ≡ p →
+    option_and_then (sense_at (map (λ n. type_sense (map shown ds) (Some (entry_shown n.what))) ds)) (elim host as (λ _. Option ℕ) [ true ↦ None | false ↦ o ])
+    ≡ type_sense (map shown ds) (elim host as (λ _. Option Entry) [ true ↦ None | false ↦ p ])
 own true ds o p is = refl
-own false ds o p is = ap (option_and_then (λ sense. sense)) is ∙ flat_sense ds o
+own false ds None p is = ap (type_sense (map shown ds)) is
+own false ds (Some number) p is = sense_numbered (map shown ds) ds number ∙ ap (type_sense (map shown ds)) is
 
--- what is found among declarations with what they mean
-pub sense_found : (ds : List (Named EntryTree)) (senses : List (Declared (Option Sense))) (name : List ℕ) →
-    senses ≡ map (λ n. with_what (λ e. type_sense (map shown ds) (Some e)) (shown n)) ds →
-    elim (is_host name) as (λ _. Option Sense) [ true ↦ None | false ↦ option_and_then (λ sense. sense) (found name senses) ] ≡ type_senses (map shown ds) name
+-- what a name means, by the number of its declaration
+pub sense_found : (ds : List (Named EntryTree)) (senses : List (Option Sense)) (name : List ℕ) → senses ≡ map (λ n. type_sense (map shown ds) (Some (entry_shown n.what))) ds →
+    option_and_then (sense_at senses) (number_in (numbering (map shown ds)) name) ≡ type_senses (map shown ds) name
 sense_found ds senses name is =
-    own (is_host name) (map shown ds) (found name (map shown ds)) (found name senses)
-    (ap (found name) (is ∙ sym (map-map (with_what (λ e. type_sense (map shown ds) (Some e))) shown ds)) ∙ found_with (λ e. type_sense (map shown ds) (Some e)) name (map shown ds))
+    ap (λ (ss : List (Option Sense)). option_and_then (sense_at ss) (number_in (numbering (map shown ds)) name)) is
+    ∙ own (is_host name) ds (found name (numbering (map shown ds))) (found name (map shown ds)) (found_numbering name (map shown ds))

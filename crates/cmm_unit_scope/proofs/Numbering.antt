@@ -1,23 +1,10 @@
 -- Declarations by their numbers.
-use Rattle.std.proofs.Common.{◌≡◌, ℕ, suc, zero, ◌+◌, ◌<◌, Bool, true, false, List, [], ◌∷◌, ◌++◌, length, map, take, get_or, Option, Some, None, option_map, refl, sym, ◌∙◌, ap, subst, arith}
+use Rattle.std.proofs.Common.{◌≡◌, ℕ, suc, ◌<◌, Bool, true, false, List, [], ◌∷◌, length, Option, Some, None, option_map, refl, sym, ◌∙◌, ap, subst, arith}
 use Rattle.std.specs.Prelude.{option_and_then, bytes_eq}
-use Rattle.std.proofs.lemmas.List.{length-map, length-take-le, map-append}
 use Rattle.cmm_static_semantics.specs.Declarations.{Declared, Entry, found}
-use Rattle.cmm_symbols.specs.Shown.{named, shown, with_what}
-use Rattle.cmm_symbols.specs.declared.table.Named.{Named}
-use Rattle.cmm_symbols.specs.declared.entry.Entry.{Entry as EntryTree}
-use Rattle.cmm_symbols.proofs.Shared.{found_with, mapped_next}
-use Rattle.cmm_unit_scope.specs.Numbers.{numbering, entry_at}
-
-numbering_last : (ds : List (Declared Entry)) (d : Declared Entry) → numbering (ds ++ d ∷ []) ≡ numbering ds ++ record { name = d.name; as_what = length ds } ∷ []
-numbering_last [] d = refl
-numbering_last (e ∷ ds) d = ap (λ t. record { name = e.name; as_what = 0 } ∷ t) (ap (map (with_what (λ n. suc n))) (numbering_last ds d) ∙ map-append (with_what (λ n. suc n)) (numbering ds) (record { name = d.name; as_what = length ds } ∷ []))
-
-pub numbered_next : (ds : List (Named EntryTree)) (k : ℕ) (d : Named EntryTree) → k < length ds → d ≡ get_or ds k d →
-    numbering (map shown (take (k + 1) ds)) ≡ numbering (map shown (take k ds)) ++ record { name = d.name.now; as_what = k } ∷ []
-numbered_next ds k d within is =
-    ap numbering (mapped_next shown ds k d within is) ∙ numbering_last (map shown (take k ds)) (shown d)
-    ∙ ap (λ (n : ℕ). numbering (map shown (take k ds)) ++ record { name = d.name.now; as_what = n } ∷ []) (length-map (take k ds) shown ∙ length-take-le k ds (omega arith))
+use Rattle.cmm_symbols.proofs.Shared.{found_with}
+use Rattle.cmm_symbols.specs.Numbering.{numbering}
+use Rattle.cmm_unit_scope.specs.Numbers.{entry_at}
 
 or_later : (b : Bool) (e : Entry) (ds : List (Declared Entry)) (d : Declared Entry) (o : Option ℕ) (p : Option Entry) → d.as_what ≡ e → option_and_then (entry_at ds) o ≡ p →
     option_and_then (entry_at (d ∷ ds)) (elim b as (λ _. Option ℕ) [ true ↦ Some 0 | false ↦ option_map (λ n. suc n) o ]) ≡ elim b as (λ _. Option Entry) [ true ↦ Some e | false ↦ p ]
@@ -50,7 +37,3 @@ found_below name (d ∷ ds) =
 pub host_below : (host : Bool) (size : ℕ) (o : Option ℕ) → IsBelow size o → IsBelow size (elim host as (λ _. Option ℕ) [ true ↦ None | false ↦ o ])
 host_below true size o h = tt
 host_below false size o h = h
-
--- one more name where it is declared
-pub named_pushed : {E : Type 0} (ns ns' : List (Named E)) (n : Named E) (xs : List (Declared E)) (x : Declared E) → ns' ≡ ns ++ n ∷ [] → map named ns ≡ xs → named n ≡ x → map named ns' ≡ xs ++ x ∷ []
-named_pushed ns ns' n xs x is before same = ap (map named) is ∙ map-append named ns (n ∷ []) ∙ ap (λ q. q ++ named n ∷ []) before ∙ ap (λ (y : Declared _). xs ++ y ∷ []) same

@@ -16,7 +16,7 @@ use Rattle.cmm_static_semantics.specs.Linking.{Program}
 use Rattle.cmm_digraph.specs.Graphs.{occurrences, is_among, are_among, are_below, is_graph, mentions}
 use Rattle.cmm_digraph.specs.Peeled.{is_ordered, is_stuck}
 use Rattle.cmm_digraph.proofs.Shared.{IsLocal, AreSteps, final_in_order, any_at, all_at, among_of, among-last}
-use Rattle.cmm_unit_scope.specs.Numbers.{numbering}
+use Rattle.cmm_symbols.specs.Numbering.{numbering}
 use Rattle.cmm_unit_scope.specs.Depending.{graph_of, mentioned_by}
 use Rattle.cmm_unit_scope.proofs.Depended.{mentions_is, graph_size, graph_is}
 use Rattle.cmm_unit_scope.specs.inside.Evaluating.{declared_at, waits_for, waits_at, AreWaiting, IsOrder, AreCyclic}

@@ -22,7 +22,8 @@ use Rattle.cmm_static_semantics.specs.Scopes.{senses_by, entry_sense, const_sens
 use Rattle.cmm_static_semantics.specs.Linking.{Program}
 use Rattle.cmm_symbols.specs.Shown.{with_what}
 use Rattle.cmm_symbols.proofs.Shared.{found_with}
-use Rattle.cmm_unit_scope.specs.Numbers.{numbering, entry_at}
+use Rattle.cmm_symbols.specs.Numbering.{numbering}
+use Rattle.cmm_unit_scope.specs.Numbers.{entry_at}
 use Rattle.cmm_unit_scope.proofs.Numbering.{found_numbering}
 use Rattle.cmm_digraph.proofs.Shared.{AreSteps}
 use Rattle.cmm_unit_scope.specs.inside.Evaluating.{declared_at, sense_after}

@@ -20,14 +20,12 @@ use Rattle.cmm_static_semantics.specs.Typing.{wanted}
 use Rattle.cmm_static_semantics.specs.Declarations.{Declared, Entry, Typedef, Const, Register, Import, DataLabel, Procedure, found}
 use Rattle.cmm_static_semantics.specs.Scopes.{entry_sense, untyped_sense, typed_sense, unit_senses}
 use Rattle.cmm_static_semantics.specs.Linking.{Program}
-use Rattle.cmm_symbols.specs.Shown.{named}
 use Rattle.cmm_typing.specs.Fitting.{FitsSense, AreWords}
-use Rattle.cmm_unit_scope.specs.Numbers.{numbering}
+use Rattle.cmm_symbols.specs.Numbering.{numbering}
 use Rattle.cmm_unit_scope.specs.declared.types.Types.{Types}
 use Rattle.cmm_digraph.proofs.Shared.{AreSet, set_next, set_all, below_index}
 use Rattle.cmm_elaboration.proofs.Shared.{SenseFits, IsKnownBy, untyped_is_word, typed_is_word}
-use Rattle.cmm_unit_scope.specs.Senses.{senses_of, AreTypes}
-use Rattle.cmm_unit_scope.specs.declared.unit_senses.UnitSenses.{UnitSenses}
+use Rattle.cmm_unit_scope.specs.Senses.{senses_by, AreTypes}
 use Rattle.cmm_unit_scope.specs.inside.Evaluating.{declared_at, first_sense, sense_after, width_by, IsOrder, AreCyclic}
 use Rattle.cmm_unit_scope.proofs.Outcomes.{Outcome, nothing, sense_of, outcome_of, entry_outcome, declared_sense, number_sense, senses_at, of_declared, after, next, or_host, same_some, untyped_exact, typed_exact, names_in, value_in}
 use Rattle.cmm_unit_scope.proofs.Order.{nodes_below, local, fixed, left_nothing}
@@ -120,11 +118,8 @@ module _ (program : Program) (ds : List (Declared Entry)) where
   by_number ss None h = refl
   by_number ss (Some j) h = meant_at ds ss j h
 
-  pub unit_names : (unit : UnitSenses) → map named unit.numbers.declared ≡ numbering ds → AreMeant ds unit.senses → (name : List ℕ) →
-      senses_of unit name ≡ senses_at program ds (outcome_at ds unit.senses) name
-  unit_names unit is h name =
-      ap (or_host (host_named name))
-      (ap (λ ns. option_and_then (slice_get unit.senses) (found name ns)) is ∙ by_number unit.senses (found name (numbering ds)) h)
+  pub unit_names : (ss : List Sense) → AreMeant ds ss → (name : List ℕ) → senses_by ds ss name ≡ senses_at program ds (outcome_at ds ss) name
+  unit_names ss h name = ap (or_host (host_named name)) (by_number ss (found name (numbering ds)) h)
 
   -- ---- a step
 
@@ -221,8 +216,8 @@ by_host : (h : Option Host) (s : Option Sense) → FitsSense s → FitsSense (or
 by_host (Some x) s fits = tt
 by_host None s fits = fits
 
-pub unit_words : (unit : UnitSenses) → All (λ s. FitsSense (Some s)) unit.senses → AreWords (senses_of unit)
-unit_words unit fits name = by_host (host_named name) _ (by_found unit.senses (found name (map named unit.numbers.declared)) fits)
+pub unit_words : (ds : List (Declared Entry)) (ss : List Sense) → All (λ s. FitsSense (Some s)) ss → AreWords (senses_by ds ss)
+unit_words ds ss fits name = by_host (host_named name) _ (by_found ss (found name (numbering ds)) fits)
 
 -- ---- on the way
 
@@ -244,63 +239,61 @@ pub node_below : (ds : List (Declared Entry)) (cyclic : ℕ → Bool) (order lef
 node_below ds cyclic order left o k lt = below_index (length ds) order k (nodes_below ds cyclic order left o).0 lt
 
 -- each sense that is set fits
-pub set_fits : (unit : UnitSenses) (width : TypeName → Option Width) (cyclic : Bool) (node : ℕ) (before : Sense) (e : Entry) (ss : List Sense) → slice_get unit.senses node ≡ Some before →
-    All (λ s. FitsSense (Some s)) unit.senses → ss ≡ set unit.senses node (sense_after (senses_of unit) width cyclic before e) → All (λ s. FitsSense (Some s)) ss
-set_fits unit width cyclic node before e ss got fits is =
+pub set_fits : (ds : List (Declared Entry)) (before after : List Sense) (width : TypeName → Option Width) (cyclic : Bool) (node : ℕ) (sense : Sense) (e : Entry) → slice_get before node ≡ Some sense →
+    All (λ s. FitsSense (Some s)) before → after ≡ set before node (sense_after (senses_by ds before) width cyclic sense e) → All (λ s. FitsSense (Some s)) after
+set_fits ds before after width cyclic node sense e got fits is =
     subst (λ (q : List Sense). All (λ s. FitsSense (Some s)) q) (sym is)
-    (All-set (λ s. FitsSense (Some s)) unit.senses node (sense_after (senses_of unit) width cyclic before e)
-    (after_fits (senses_of unit) (unit_words unit fits) width cyclic before e (subst (λ (o : Option Sense). FitsSense o) got (fits_at unit.senses node fits)))
+    (All-set (λ s. FitsSense (Some s)) before node (sense_after (senses_by ds before) width cyclic sense e)
+    (after_fits (senses_by ds before) (unit_words ds before fits) width cyclic sense e (subst (λ (o : Option Sense). FitsSense o) got (fits_at before node fits)))
     fits)
 
 module _ (program : Program) (ds : List (Declared Entry)) where
   abbrev pub end : ℕ → Outcome
   end v = value_in program ds (suc (length ds)) v
 
-  -- what is known of a unit when some nodes are done
-  pub record IsOnTheWay (nodes : List ℕ) (unit : UnitSenses) : Type 0 where
-    pub numbers : map named unit.numbers.declared ≡ numbering ds
-    pub meant : AreMeant program ds ds unit.senses
-    pub set_ : AreSet end nothing nodes (outcomes ds unit.senses)
-    pub fits : All (λ s. FitsSense (Some s)) unit.senses
+  -- what is known of the senses of a unit when some nodes are done
+  pub record IsOnTheWay (nodes : List ℕ) (ss : List Sense) : Type 0 where
+    pub meant : AreMeant program ds ds ss
+    pub set_ : AreSet end nothing nodes (outcomes ds ss)
+    pub fits : All (λ s. FitsSense (Some s)) ss
 
-  pub way_begins : (unit : UnitSenses) → map named unit.numbers.declared ≡ numbering ds → unit.senses ≡ map (first_sense program ds) ds → All (λ s. FitsSense (Some s)) unit.senses → IsOnTheWay [] unit
-  way_begins unit numbers is fits = record { numbers = numbers; meant = first_are_meant program ds unit.senses is; set_ = first_set program ds end unit.senses is; fits = fits }
+  pub way_begins : (ss : List Sense) → ss ≡ map (first_sense program ds) ds → All (λ s. FitsSense (Some s)) ss → IsOnTheWay [] ss
+  way_begins ss is fits = record { meant = first_are_meant program ds ss is; set_ = first_set program ds end ss is; fits = fits }
 
   module _ (cyclic : ℕ → Bool) (first : AreCyclic ds cyclic) (order left : List ℕ) (second : IsOrder ds cyclic order left) where
-    module _ (types : Types) (widths : AreTypes ds types) (k : ℕ) (lt : k < length order) (unit : UnitSenses) (way : IsOnTheWay (take k order) unit) (d : Declared Entry)
-        (at_ : declared_at ds (get_or order k 0) ≡ Some d) (before : Sense) (got : slice_get unit.senses (get_or order k 0) ≡ Some before) where
+    module _ (types : Types) (widths : AreTypes ds types) (k : ℕ) (lt : k < length order) (old : List Sense) (way : IsOnTheWay (take k order) old) (d : Declared Entry)
+        (at_ : declared_at ds (get_or order k 0) ≡ Some d) (before : Sense) (got : slice_get old (get_or order k 0) ≡ Some before) where
       abbrev node : ℕ
       node = get_or order k 0
 
       abbrev new : Sense
-      new = sense_after (senses_of unit) (width_by types) (cyclic node) before d.as_what
+      new = sense_after (senses_by ds old) (width_by types) (cyclic node) before d.as_what
 
-      outcome_is : entry_outcome d.as_what new ≡ next program ds cyclic (outcome_at ds unit.senses) node
+      outcome_is : entry_outcome d.as_what new ≡ next program ds cyclic (outcome_at ds old) node
       outcome_is =
-          entry_any program ds (senses_of unit) (width_by types) (cyclic node) before (meanings.Broken None) d.as_what
+          entry_any program ds (senses_by ds old) (width_by types) (cyclic node) before (meanings.Broken None) d.as_what
           ∙ ap (λ (n : Senses). entry_outcome d.as_what (sense_after n (width_by types) (cyclic node) (meanings.Broken None) d.as_what))
-          (fun_ext (λ (name : List ℕ). unit_names program ds unit way.numbers way.meant name))
-          ∙ ap (λ (w : TypeName → Option Width). entry_outcome d.as_what (sense_after (senses_at program ds (outcome_at ds unit.senses)) w (cyclic node) (meanings.Broken None) d.as_what))
+          (fun_ext (λ (name : List ℕ). unit_names program ds old way.meant name))
+          ∙ ap (λ (w : TypeName → Option Width). entry_outcome d.as_what (sense_after (senses_at program ds (outcome_at ds old)) w (cyclic node) (meanings.Broken None) d.as_what))
           (fun_ext (λ (t : TypeName). widths t))
-          ∙ ap (of_declared nothing (after program ds (cyclic node) (outcome_at ds unit.senses))) (sym at_)
+          ∙ ap (of_declared nothing (after program ds (cyclic node) (outcome_at ds old))) (sym at_)
 
       new_meant : new ≡ declared_sense program ds (entry_outcome d.as_what new) d
       new_meant =
-          after_meant program ds (senses_of unit) (width_by types) (cyclic node) (outcome_at ds unit.senses node) before d.name.name d.as_what
-          (before_is program ds unit.senses node d before way.meant at_ got)
+          after_meant program ds (senses_by ds old) (width_by types) (cyclic node) (outcome_at ds old node) before d.name.name d.as_what
+          (before_is program ds old node d before way.meant at_ got)
 
-      set_is : set (outcomes ds unit.senses) node (next program ds cyclic (outcome_at ds unit.senses) node) ≡ outcomes ds (set unit.senses node new)
-      set_is = sym (outcomes_set program ds ds unit.senses node d new at_ way.meant ∙ ap (set (outcomes ds unit.senses) node) outcome_is)
+      set_is : set (outcomes ds old) node (next program ds cyclic (outcome_at ds old) node) ≡ outcomes ds (set old node new)
+      set_is = sym (outcomes_set program ds ds old node d new at_ way.meant ∙ ap (set (outcomes ds old) node) outcome_is)
 
-      pub way_goes : (ss : List Sense) → ss ≡ set unit.senses node new → IsOnTheWay (take (k + 1) order) (record unit { senses = ss })
+      pub way_goes : (ss : List Sense) → ss ≡ set old node new → IsOnTheWay (take (k + 1) order) ss
       way_goes ss is = record {
-        numbers = way.numbers;
-        meant = subst (λ (q : List Sense). AreMeant program ds ds q) (sym is) (meant_set program ds ds unit.senses node d new at_ new_meant way.meant);
+        meant = subst (λ (q : List Sense). AreMeant program ds ds q) (sym is) (meant_set program ds ds old node d new at_ new_meant way.meant);
         set_ = subst (λ (q : List Outcome). AreSet end nothing (take (k + 1) order) q) (set_is ∙ ap (outcomes ds) (sym is))
             (set_next second.graph (next program ds cyclic) end nothing (local program ds cyclic second.graph second.waiting) order second.peeled.ordered
-            (fixed program ds cyclic first order left second) k lt (outcomes ds unit.senses)
-            (let size : length (outcomes ds unit.senses) ≡ length ds = outcomes_size ds unit.senses in let below : node < length ds = node_below ds cyclic order left second k lt in omega arith) way.set_);
-        fits = set_fits unit (width_by types) (cyclic node) node before d.as_what ss got way.fits is;
+            (fixed program ds cyclic first order left second) k lt (outcomes ds old)
+            (let size : length (outcomes ds old) ≡ length ds = outcomes_size ds old in let below : node < length ds = node_below ds cyclic order left second k lt in omega arith) way.set_);
+        fits = set_fits ds old ss (width_by types) (cyclic node) node before d.as_what got way.fits is;
       }
 
     -- ---- in the end
@@ -314,12 +307,12 @@ module _ (program : Program) (ds : List (Declared Entry)) where
     same_found w w' same None = refl
     same_found w w' same (Some j) = same_number w w' same j (declared_at ds j) refl
 
-    pub way_ends : (unit : UnitSenses) → IsOnTheWay order unit → (name : List ℕ) → senses_of unit name ≡ unit_senses program ds name
-    way_ends unit way name =
-        unit_names program ds unit way.numbers way.meant name
+    pub way_ends : (ss : List Sense) → IsOnTheWay order ss → (name : List ℕ) → senses_by ds ss name ≡ unit_senses program ds name
+    way_ends ss way name =
+        unit_names program ds ss way.meant name
         ∙ ap (or_host (host_named name))
-        (same_found (outcome_at ds unit.senses) end
+        (same_found (outcome_at ds ss) end
         (λ v lt. set_all second.graph end nothing order left second.peeled (λ u among. left_nothing program ds cyclic first order left second (suc (length ds)) u among)
-        (outcomes ds unit.senses) way.set_ v (let size : length second.graph ≡ length ds = second.waiting.size in omega arith))
+        (outcomes ds ss) way.set_ v (let size : length second.graph ≡ length ds = second.waiting.size in omega arith))
         (found name (numbering ds)))
         ∙ sym (names_in program ds (suc (length ds)) name)

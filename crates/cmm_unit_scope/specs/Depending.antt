@@ -3,7 +3,7 @@ use Rattle.std.specs.Prelude.{ℕ, List, map, flat_map, Option, Some}
 use Rattle.cmm_static_semantics.specs.Declarations.{Declared, Entry}
 use Rattle.cmm_static_semantics.specs.Mentions.{listed}
 use Rattle.cmm_static_semantics.specs.Scopes.{named_by}
-use Rattle.cmm_unit_scope.specs.Numbers.{numbering, number_in}
+use Rattle.cmm_symbols.specs.Numbering.{numbering, number_in}
 
 abbrev pub numbers_of : List (Declared ℕ) → List (List ℕ) → List ℕ
 numbers_of numbers names = flat_map (λ n. listed (number_in numbers n)) names

@@ -4,15 +4,15 @@ ghost use Rattle.std.specs.Prelude.{◌≡◌, ◌<◌, List, Some, map, length,
 ghost use Rattle.cmm_static_semantics.specs.Declarations.{Declared, Entry as UnitEntry};
 ghost use Rattle.cmm_static_semantics.specs.Scopes.{depends_on_itself};
 ghost use Rattle.cmm_symbols.specs.Shown.{shown};
-ghost use Rattle.cmm_unit_scope.specs.Numbers.{numbering, number_in, entry_at};
+ghost use Rattle.cmm_symbols.specs.Numbering.{numbering, number_in};
+ghost use Rattle.cmm_unit_scope.specs.Numbers.{entry_at};
 ghost use Rattle.cmm_unit_scope.specs.Depending.{graph_of};
 ghost use Rattle.cmm_unit_scope.specs.Dependent.{AreDependencies};
 
 use crate::dependency_graph::graph_of;
-use crate::number::numbered;
 use cmm_digraph::on_cycles;
 use cmm_items::Items;
-use cmm_symbols::{Entry, Named, Table};
+use cmm_symbols::{Entry, Table};
 use std::alloc::{AllocError, Global};
 
 /// Which declarations of a unit name which.
@@ -43,13 +43,11 @@ impl Dependencies {
 /// Which declarations of a unit name which.
 pub fn dependencies_of<'a>(
     alloc: Global,
-    declared: &[Named<'a, Entry<'a>>],
+    table: &Table<'a, Entry<'a>>,
 ) -> Result<Dependencies, AllocError>
-    ensures { IfOk result (AreDependencies (map shown declared.now)) }
+    ensures { IfOk result (AreDependencies (map shown table.now.declared)) }
 {
-    let mut repeated = None;
-    let numbers = Table::of(alloc, numbered(alloc, declared)?, &mut repeated)?;
-    let graph = graph_of(alloc, &numbers, declared)?;
+    let graph = graph_of(alloc, table)?;
     let cyclic = on_cycles(alloc, graph.as_slice())?;
     Ok(Dependencies { graph, cyclic })
 }

@@ -2,25 +2,26 @@
 
 ghost use Rattle.std.specs.Prelude.{◌≡◌, ◌++◌, Some, map, IfOk, OnOk};
 ghost use Rattle.cmm_static_semantics.specs.Declarations.{Typedef};
-ghost use Rattle.cmm_symbols.specs.Shown.{named, shown, entry_shown};
-ghost use Rattle.cmm_unit_scope.specs.Depending.{mentioned_by, graph_by};
+ghost use Rattle.cmm_symbols.specs.Numbering.{numbering};
+ghost use Rattle.cmm_symbols.specs.Shown.{shown, entry_shown};
+ghost use Rattle.cmm_unit_scope.specs.Depending.{mentioned_by, graph_of};
 
 use crate::mentioned::add_expr;
 use crate::number::type_number;
 use cmm_ast::TypeName;
 use cmm_items::Items;
-use cmm_symbols::{Entry, Named, Table};
+use cmm_symbols::{Entry, Table};
 use std::alloc::{AllocError, Global};
 
 /// Adds the number of the declaration that a typedef names.
 fn add_type<'a>(
-    numbers: &Table<'a, usize>,
+    table: &Table<'a, Entry<'a>>,
     t: &TypeName,
     to: &mut Items<usize>,
 ) -> Result<(), AllocError>
-    ensures { OnOk result (to.new ≡ to.old ++ mentioned_by (map named numbers.now.declared) (Some (Typedef t.now))) }
+    ensures { OnOk result (to.new ≡ to.old ++ mentioned_by (numbering (map shown table.now.declared)) (Some (Typedef t.now))) }
 {
-    match type_number(numbers, t) {
+    match type_number(table, t) {
         Some(number) => Ok(to.push(number)?),
         None => Ok(()),
     }
@@ -28,19 +29,19 @@ fn add_type<'a>(
 
 /// Adds the numbers of the declarations that a declaration names.
 fn add_entry<'a>(
-    numbers: &Table<'a, usize>,
+    table: &Table<'a, Entry<'a>>,
     entry: Entry<'a>,
     to: &mut Items<usize>,
 ) -> Result<(), AllocError>
-    ensures { OnOk result (to.new ≡ to.old ++ mentioned_by (map named numbers.now.declared) (Some (entry_shown entry.entry))) }
+    ensures { OnOk result (to.new ≡ to.old ++ mentioned_by (numbering (map shown table.now.declared)) (Some (entry_shown entry.entry))) }
 {
     match entry {
         Entry::Typedef(t) => {
-            add_type(numbers, t, to)?;
+            add_type(table, t, to)?;
             Ok(())
         }
         Entry::Const(_, value) => {
-            add_expr(numbers, value, to)?;
+            add_expr(table, value, to)?;
             Ok(())
         }
         Entry::Register(_) => Ok(()),
@@ -53,15 +54,14 @@ fn add_entry<'a>(
 /// For each declaration those that it names, by their numbers.
 pub(crate) fn graph_of<'a>(
     alloc: Global,
-    numbers: &Table<'a, usize>,
-    declared: &[Named<'a, Entry<'a>>],
+    table: &Table<'a, Entry<'a>>,
 ) -> Result<Items<Items<usize>>, AllocError>
-    ensures { IfOk result (λ graph. graph ≡ graph_by (map named numbers.now.declared) (map shown declared.now)) }
+    ensures { IfOk result (λ graph. graph ≡ graph_of (map shown table.now.declared)) }
 {
     let mut graph = Items::new(alloc);
-    for named in declared {
+    for named in table.declared.as_slice() {
         let mut mentions = Items::new(alloc);
-        add_entry(numbers, named.what, &mut mentions)?;
+        add_entry(table, named.what, &mut mentions)?;
         graph.push(mentions)?;
     }
     Ok(graph)

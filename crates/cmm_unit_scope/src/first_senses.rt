@@ -17,7 +17,11 @@ use cmm_words::Constant;
 use std::alloc::{AllocError, Global};
 
 /// What a declaration means, but for the value of a constant.
-fn first_sense<'a, L: Linked>(linked: &L, types: &Types<'a>, named: &Named<'a, Entry<'a>>) -> Sense
+fn first_sense<'a, L: Linked>(
+    linked: &L,
+    types: &Types<'_, 'a>,
+    named: &Named<'a, Entry<'a>>,
+) -> Sense
     ensures value { (ds : List (Declared UnitEntry)) → AreTypes ds types.now → result ≡ first_sense (L.program linked.now) ds (shown named.now) }
     ensures fits { FitsSense (Some result) }
 {
@@ -38,7 +42,7 @@ fn first_sense<'a, L: Linked>(linked: &L, types: &Types<'a>, named: &Named<'a, E
 pub(crate) fn first_senses<'a, L: Linked>(
     alloc: Global,
     linked: &L,
-    types: &Types<'a>,
+    types: &Types<'_, 'a>,
     declared: &[Named<'a, Entry<'a>>],
 ) -> Result<Items<Sense>, AllocError>
     requires { AreTypes (map shown declared.now) types.now }

@@ -1,7 +1,8 @@
 //! What the names of a unit mean.
 //!
-//! `senses_of_unit` answers what each name means, exactly `unit_senses` of `cmm_static_semantics`: each typedef's width, and each constant's value, evaluated
-//! once, after those that it names, which may stand later in the unit. Below it, `types_of` finds the widths of typedefs, and `dependencies_of` what each
+//! `senses_of_unit` answers what each declaration means, by its number, so that names mean exactly `unit_senses` of `cmm_static_semantics`: each typedef's
+//! width, and each constant's value, evaluated once, after those that it names, which may stand later in the unit. Names are found by the unit's own table,
+//! which is lent, and made once. Below it, `types_of` finds the widths of typedefs, and `dependencies_of` what each
 //! typedef and constant names, so that those that depend on themselves are found: they have no value. Time is linear in the unit, and want of memory is the
 //! only failure.
 //!

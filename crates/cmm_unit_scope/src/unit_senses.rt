@@ -1,37 +1,46 @@
 //! What the names of a unit mean.
 
-ghost use Rattle.std.specs.Prelude.{◌≡◌, ◌<◌, Some, length, slice_get};
+ghost use Rattle.std.specs.Prelude.{◌≡◌, ◌<◌, Some, length, map, slice_get};
 ghost use Rattle.cmm_static_semantics.specs.Algebras.{knowns};
 ghost use Rattle.cmm_static_semantics.specs.Constants.{as_number};
 ghost use Rattle.cmm_static_semantics.specs.Scopes as scopes;
 ghost use Rattle.cmm_static_semantics.specs.Typing as typing;
 ghost use Rattle.cmm_typing.specs.Fitting.{AreWords};
+ghost use Rattle.cmm_static_semantics.specs.Declarations.{found};
+ghost use Rattle.cmm_symbols.specs.Numbering.{numbering};
+ghost use Rattle.cmm_symbols.specs.Shown.{shown};
 ghost use Rattle.cmm_unit_scope.specs.Senses.{senses_of};
 
 use cmm_ast::Expr;
-use cmm_items::Items;
 use cmm_static_semantics::Sense;
-use cmm_symbols::{Table, host_named};
+use cmm_symbols::{Entry, Table, host_named};
 use cmm_typing::{Judged, Names, as_number, number_alone, wanted};
 use cmm_words::{Constant, Name, Width};
 
 /// What the names of a unit mean.
-#[derive(Drop)]
-pub struct UnitSenses<'a> {
-    /// Its declarations by their numbers, in textual order.
-    pub(crate) numbers: Table<'a, usize>,
-    /// What each of them means.
-    pub(crate) senses: Items<Sense>,
+#[derive(Clone, Copy)]
+pub struct UnitSenses<'t, 'a> {
+    /// Its declarations.
+    pub table: &'t Table<'a, Entry<'a>>,
+    /// What each of them means, by its number.
+    pub senses: &'t [Sense],
 }
 
-impl<'a> Names for UnitSenses<'a> {
+/// The number of what a name is first declared as.
+fn number_in<'a>(table: &Table<'a, Entry<'a>>, name: &Name) -> Option<usize>
+    ensures { result ≡ found name.now (numbering (map shown table.now.declared)) }
+{
+    table.number(name)
+}
+
+impl<'t, 'a> Names for UnitSenses<'t, 'a> {
     ghost senses = { senses_of };
 
     fn sense(&self, name: &Name) -> Option<Sense> {
         if let Some(host) = host_named(name.as_bytes()) {
             return Some(Sense::Host(host));
         }
-        match self.numbers.find(name) {
+        match number_in(self.table, name) {
             Some(number) => self.senses.get(number).copied(),
             None => None,
         }
@@ -48,13 +57,13 @@ fn valued(width: Width, number: Judged<u64>) -> Sense
     }
 }
 
-impl<'a> UnitSenses<'a> {
-    /// What a declaration means, by its number.
+impl<'t, 'a> UnitSenses<'t, 'a> {
+    /// What the declaration with a number means.
     pub(crate) fn at(&self, number: usize) -> Sense
-        requires { number < length self.now.senses }
-        ensures { slice_get self.now.senses number ≡ Some result }
+        requires { number < length self.now.senses.now }
+        ensures { slice_get self.now.senses.now number ≡ Some result }
     {
-        self.senses.as_slice()[number]
+        self.senses[number]
     }
 
     /// What a constant without a type means, from what the names in it mean.

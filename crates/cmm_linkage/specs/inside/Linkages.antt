@@ -2,20 +2,16 @@
 use Rattle.std.specs.Prelude.{◌≡◌, ℕ, true, false, ◌||◌, List, [], ◌∷◌, map, bytes_eq, option_map, Option, Some, None}
 use Rattle.std.specs.declared.hash.FoldHasher.{FoldHasher}
 use Rattle.std.specs.declared.hash.BuildHasherDefault.{BuildHasherDefault}
-use Rattle.indexmap.specs.IndexMap.{get_by}
 use Rattle.indexmap.specs.IndexSet.{IndexSet}
 use denote.Ref.{Bor}
 use Rattle.cmm_ast.specs.declared.declaration.Export.{Export}
 use Rattle.cmm_static_semantics.specs.Declarations.{Declared, Entry, entry_of}
 use Rattle.cmm_static_semantics.specs.Linking.{Published, address_of, export_link, is_among}
+use Rattle.cmm_symbols.specs.Indexed.{indexed}
 use Rattle.cmm_symbols.specs.Shown.{entry_shown}
+use Rattle.cmm_symbols.specs.declared.index.Index.{Index}
 use Rattle.cmm_symbols.specs.declared.entry.Entry.{Entry as EntryTree}
-use Rattle.cmm_linkage.specs.declared.links.Links.{Links}
 use Rattle.cmm_linkage.specs.declared.linkage.Exported.{Exported}
-
--- what stands under a link name
-abbrev pub under : {E : Type 0} → Links E → List ℕ → Option E
-under links x = get_by (λ k. bytes_eq x k.now) links.table
 
 -- something exported, by what the names of its unit are declared as
 abbrev pub publication : List (Declared Entry) → Export → Published
@@ -29,8 +25,8 @@ abbrev pub first_under : List ℕ → List Exported → Option (Option EntryTree
 first_under x [] = None
 first_under x (e ∷ es) = elim (bytes_eq x e.link.now) [ true ↦ Some e.entry | false ↦ first_under x es ]
 
-abbrev pub AreLinks : Links (Option EntryTree) → List Exported → Type 0
-AreLinks links es = (x : List ℕ) → under links x ≡ first_under x es
+abbrev pub AreLinks : Index (Option EntryTree) → List Exported → Type 0
+AreLinks links es = (x : List ℕ) → indexed links x ≡ first_under x es
 
 abbrev pub names_shown : IndexSet (Bor (List ℕ)) (BuildHasherDefault FoldHasher) → List (List ℕ)
 names_shown names = map (λ k. k.now) names.keys

@@ -6,7 +6,7 @@ use Rattle.cmm_static_semantics.specs.declared.spot.Spot.{Spot}
 use Rattle.cmm_static_semantics.specs.Spots.{first_of, at}
 use Rattle.cmm_static_semantics.specs.Declarations.{Declared, Entry, Typedef, Const}
 use Rattle.cmm_static_semantics.specs.Units.{cycle_spots}
-use Rattle.cmm_unit_scope.specs.Numbers.{numbering, number_in}
+use Rattle.cmm_symbols.specs.Numbering.{numbering, number_in}
 
 -- 39: a typedef or constant depends on itself
 abbrev pub entry_cycle_spots : List (Declared Entry) → Declared Entry → List Spot

@@ -7,7 +7,8 @@ use Rattle.cmm_static_semantics.specs.declared.sense.Sense.{Sense}
 use Rattle.cmm_static_semantics.specs.Mentions.{listed}
 use Rattle.cmm_static_semantics.specs.Declarations.{Declared, Entry, Typedef}
 use Rattle.cmm_static_semantics.specs.Scopes.{typedef_sense}
-use Rattle.cmm_unit_scope.specs.Numbers.{number_in, type_number}
+use Rattle.cmm_symbols.specs.Numbering.{number_in}
+use Rattle.cmm_unit_scope.specs.Numbers.{type_number}
 
 -- the declaration that a typedef names as its type
 abbrev pub entry_number : List (Declared ℕ) → Entry → Option ℕ

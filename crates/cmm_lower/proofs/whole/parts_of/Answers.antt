@@ -3,9 +3,8 @@ use Rattle.std.proofs.lemmas.List.{take_all}
 use Rattle.std.proofs.lemmas.List.Elements.{All-get_or}
 use Rattle.std.proofs.lemmas.Slice.Zip.{AllZip-long}
 use Rattle.cmm_static_semantics.specs.Declarations.{NamedUnit}
-use Rattle.cmm_checked.specs.Known.{IsKnown}
+use Rattle.cmm_checked.specs.Known.{IsKnown, names_of}
 use Rattle.cmm_checked.specs.declared.unit.CheckedUnit.{CheckedUnit}
-use Rattle.cmm_unit_scope.specs.Senses.{senses_of}
 use Rattle.cmm_lower.specs.inside.Made.{AreParts}
 use Rattle.cmm_lower.proofs.Known.{parted, zip_at}
 use Rattle.cmm_typing.specs.Fitting.{AreWords}
@@ -14,8 +13,8 @@ use Rattle.cmm_lower.proofs.whole.parts_of.Goals as goal
 pub with_unit-requires : goal.with_unit-requires
 with_unit-requires c =
     let unit = c.index-units-number.result in
-    subst (λ (n : CheckedUnit). AreWords (senses_of n.senses)) (sym c.index-units-number.is)
-    (All-get_or (λ (n : CheckedUnit). AreWords (senses_of n.senses)) c.args.units.now c.loop-number.number unit c.loop-number-test.true c.requires.words)
+    subst (λ (n : CheckedUnit). AreWords (names_of n)) (sym c.index-units-number.is)
+    (All-get_or (λ (n : CheckedUnit). AreWords (names_of n)) c.args.units.now c.loop-number.number unit c.loop-number-test.true c.requires.words)
 
 pub loop-number-init : goal.loop-number-init
 loop-number-init c program us known fit = c.none-parts.ensures program

@@ -2,12 +2,12 @@ use Rattle.std.proofs.Common.{◌≡◌, ◌∙◌, List, [], ◌∷◌, ap, map
 use Rattle.std.proofs.lemmas.Iterator.{YieldsList-from_zip}
 use Rattle.std.proofs.lemmas.Iterator.Adapters.{YieldsList-from_vec}
 use Rattle.std.proofs.lemmas.Iterator.Consumers.{YieldsList-end}
-use Rattle.cmm_unit_scope.specs.declared.unit_senses.UnitSenses.{UnitSenses}
+use Rattle.cmm_static_semantics.specs.declared.sense.Sense.{Sense}
 use Rattle.cmm_static.specs.declared.unit_names.UnitNames.{UnitNames}
 use Rattle.cmm_static.specs.inside.Units.{checked_unit}
 use Rattle.cmm_static.proofs.checking.with_senses.Goals as goal
 
-paired : (xs : List (UnitNames × UnitSenses)) → map checked_unit (map (λ x. (x.0, x.1)) xs) ≡ map checked_unit xs
+paired : (xs : List (UnitNames × List Sense)) → map checked_unit (map (λ x. (x.0, x.1)) xs) ≡ map checked_unit xs
 paired [] = refl
 paired (x ∷ xs) = ap (λ us. checked_unit x ∷ us) (paired xs)
 

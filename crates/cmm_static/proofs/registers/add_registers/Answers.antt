@@ -1,4 +1,4 @@
-use Rattle.std.proofs.Common.{◌≡◌, ◌++◌, ◌∙◌, List, ℕ, Option, map, take, ap, subst}
+use Rattle.std.proofs.Common.{◌++◌, ◌∙◌, List, ℕ, Option, map, take, ap, subst}
 use Rattle.std.specs.Prelude.{bytes_eq}
 use Rattle.cmm_words.specs.declared.width.Width.{Width}
 use Rattle.cmm_ast.specs.declared.expression.TypeName.{TypeName}
@@ -22,8 +22,7 @@ loop-register-preserved c = λ before. λ are.
     let k = c.loop-register.register-index in
     let r = c.register-item.result in
     let old = c.loop-register.earlier in
-    let same : c.in_ok-name.name ≡ r.name.now.name = c.in_ok-name.ensures ∙ c.as_bytes.ensures in
     subst (λ (q : List (Declared (Option Width))). AreFound c.add.new.self q) (listed_next register_shown (with_what w) before rs k r c.loop-register-test.true c.register-item.is)
     (found_added old c.add.new.self (before ++ widths_by w (map register_shown (take k rs))) (with_what w (register_shown r)) (c.loop-register.invariant before are)
-    (λ x. c.in_ok-add.ensures.names x ∙ ap (λ (n : List ℕ). or_else (indexed old x) (bytes_eq x n) c.width_of.result) same
-    ∙ ap (λ (v : Option Width). or_else (indexed old x) (bytes_eq x r.name.now.name) v) c.width_of.ensures))
+    (λ x. c.in_ok-add.ensures.names x ∙ ap (λ (n : List ℕ). or_else (indexed old x) (bytes_eq x n) c.width_of-width.result) c.as_bytes.ensures
+    ∙ ap (λ (v : Option Width). or_else (indexed old x) (bytes_eq x r.name.now.name) v) c.width_of-width.ensures))

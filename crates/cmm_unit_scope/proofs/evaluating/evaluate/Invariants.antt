@@ -9,6 +9,6 @@ use Rattle.cmm_unit_scope.proofs.evaluating.evaluate.Given as goal
 
 abbrev pub invariant-loop-node : goal.invariant-loop-node
 invariant-loop-node l =
-    (length l.unit.senses ≡ length l.declared) × All (λ s. FitsSense (Some s)) l.unit.senses
-    × ((program : Program) → l.fn.unit.senses ≡ map (first_sense program (map shown l.declared)) (map shown l.declared) →
-    IsOnTheWay program (map shown l.declared) (take l.node-index l.node-items) l.unit)
+    (length l.senses ≡ length l.table.declared) × All (λ s. FitsSense (Some s)) l.senses
+    × ((program : Program) → l.fn.senses ≡ map (first_sense program (map shown l.table.declared)) (map shown l.table.declared) →
+    IsOnTheWay program (map shown l.table.declared) (take l.node-index l.node-items) l.senses)

@@ -1,7 +1,8 @@
 use Rattle.std.proofs.Common.{◌++◌, ◌∙◌, map, ap, refl, sym}
 use Rattle.cmm_ast.specs.declared.expression.PrimForm.{PrimForm}
 use Rattle.cmm_static_semantics.specs.Mentions.{values_alone, expr_names, prim_names}
-use Rattle.cmm_symbols.specs.Shown.{named}
+use Rattle.cmm_symbols.specs.Numbering.{numbering}
+use Rattle.cmm_symbols.specs.Shown.{shown}
 use Rattle.cmm_symbols.proofs.Shared.{infix_law, prefix_law, named_law, bracketed_law, memory_law}
 use Rattle.cmm_unit_scope.specs.inside.Numbered.{numbers_in}
 use Rattle.cmm_unit_scope.proofs.Listed.{added_twice, numbers_append, operands_next}
@@ -9,7 +10,7 @@ use Rattle.cmm_unit_scope.proofs.mentioned.+expression.Goals as goal
 
 pub add_expr-returns-in_ok-add_expr-in-Infix-2 : goal.add_expr-returns-in_ok-add_expr-in-Infix-2
 add_expr-returns-in_ok-add_expr-in-Infix-2 t c =
-    let ns = map named c.args.numbers.now.declared in
+    let ns = numbering (map shown c.args.table.now.declared) in
     added_twice c.args.to.now (numbers_in ns (expr_names values_alone c.in-Infix.left)) (numbers_in ns (expr_names values_alone c.in-Infix.right)) _ c.add_expr.new.to c.add_expr-in-Infix.new.to
     (rw c.get.ensures at c.in_ok-add_expr-in-Infix.ensures) (rw c.get-in-Infix.ensures at c.in_ok-add_expr-in-Infix-2.ensures)
     (ap (numbers_in ns) (infix_law values_alone c.args.e.now c.in-Infix.left c.in-Infix.operator c.in-Infix.right c.in-Infix.is)
@@ -26,7 +27,7 @@ add_expr-returns-in_ok-add_operands-in-Named t c =
 pub add_prim-returns-in_ok-add_name-in-Name : goal.add_prim-returns-in_ok-add_name-in-Name
 add_prim-returns-in_ok-add_name-in-Name t c = λ token.
     c.in_ok-add_name-in-Name.ensures token
-    ∙ ap (λ (p : PrimForm). c.args.to.now ++ numbers_in (map named c.args.numbers.now.declared) (prim_names values_alone token p)) (sym c.in-Name.is)
+    ∙ ap (λ (p : PrimForm). c.args.to.now ++ numbers_in (numbering (map shown c.args.table.now.declared)) (prim_names values_alone token p)) (sym c.in-Name.is)
 
 pub add_prim-returns-in_ok-add_expr-in-Bracketed : goal.add_prim-returns-in_ok-add_expr-in-Bracketed
 add_prim-returns-in_ok-add_expr-in-Bracketed t c = λ token.
@@ -37,5 +38,5 @@ add_memory-returns t c = rw (memory_law values_alone c.args.memory.now, c.in_ok-
 
 pub add_operands-loop-operand-preserved : goal.add_operands-loop-operand-preserved
 add_operands-loop-operand-preserved t c =
-    operands_next (map named c.args.numbers.now.declared) c.args.to.now c.loop-operand.to c.add_expr.new.to c.args.operands.now c.loop-operand.operand-index c.operand-item.result c.loop-operand-test.true
+    operands_next (numbering (map shown c.args.table.now.declared)) c.args.to.now c.loop-operand.to c.add_expr.new.to c.args.operands.now c.loop-operand.operand-index c.operand-item.result c.loop-operand-test.true
     c.operand-item.is c.loop-operand.invariant c.in_ok-add_expr.ensures

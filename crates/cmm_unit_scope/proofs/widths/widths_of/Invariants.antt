@@ -7,4 +7,4 @@ use Rattle.cmm_unit_scope.proofs.widths.widths_of.Given as goal
 abbrev pub invariant-loop-node : goal.invariant-loop-node
 invariant-loop-node l =
     (length l.widths ≡ length l.declared)
-    × AreSet (final (map shown l.declared)) None (take l.node-index l.node-items) l.widths
+    × AreSet (final (map shown l.table.declared)) None (take l.node-index l.node-items) l.widths
