@@ -76,7 +76,8 @@ def programs():
 def plain_text(case, told):
     """The bytes of a file that a case spells, or None."""
     if told.startswith("is "):
-        return case.units[told[3:]]
+        # (where changes follow, it is no text of a unit)
+        return case.units.get(told[3:])
     return rows.plain(told) if told.startswith((": ", "= ")) else None
 
 
