@@ -12,7 +12,7 @@ use crate::program::Program;
 use cmm_items::Items;
 
 /// Where one procedure's code and the parts of its frames lie. Offsets are in bytes, from the frame's address.
-#[derive(Debug, Drop)]
+#[derive(Drop)]
 pub struct PlaceRow {
     /// The address of the code.
     pub code: u64,
@@ -25,7 +25,7 @@ pub struct PlaceRow {
 }
 
 /// A row for each procedure of a program, in their order.
-#[derive(Debug, Drop)]
+#[derive(Drop)]
 pub struct Placement {
     pub rows: Items<PlaceRow>,
 }

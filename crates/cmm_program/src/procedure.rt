@@ -5,14 +5,14 @@ use cmm_items::Items;
 use cmm_words::{Constant, Name, Width};
 
 /// A variable or a global register that takes a value, by its number, with its width.
-#[derive(Clone, Copy, Debug, PartialEq, Eq)]
+#[derive(Clone, Copy, PartialEq, Eq)]
 pub enum Target {
     Variable(u32, Width),
     Register(u32, Width),
 }
 
 /// A variable of a procedure.
-#[derive(Debug, Drop)]
+#[derive(Drop)]
 pub struct VarInfo {
     pub width: Width,
     /// The text of its declaration, which a walk shows.
@@ -23,7 +23,7 @@ pub struct VarInfo {
 
 /// An item of stackdata. An item of length 0 with `label` set is a stackdata label; one of length 0 without is an
 /// alignment.
-#[derive(Clone, Copy, Debug, PartialEq, Eq)]
+#[derive(Clone, Copy, PartialEq, Eq)]
 pub struct StackItem {
     /// In bytes.
     pub align: u32,
@@ -33,14 +33,14 @@ pub struct StackItem {
 }
 
 /// A continuation of a procedure.
-#[derive(Debug, Drop)]
+#[derive(Drop)]
 pub struct Cont {
     /// The variables that take the values passed to it.
     pub params: Items<u32>,
 }
 
 /// A call site: a call, a yield or a checked operator.
-#[derive(Debug, Drop)]
+#[derive(Drop)]
 pub struct Site {
     /// What takes the values of its normal exit.
     pub results: Items<Target>,
@@ -62,7 +62,7 @@ pub struct Site {
 }
 
 /// A procedure.
-#[derive(Debug, Drop)]
+#[derive(Drop)]
 pub struct Proc {
     pub name: Name,
     /// The number of its unit.

@@ -5,7 +5,7 @@ use cmm_items::Items;
 use cmm_words::{Constant, Name, Width};
 
 /// A piece of initialised data, or an alignment.
-#[derive(Debug, Drop)]
+#[derive(Drop)]
 pub struct Datum {
     /// In bytes.
     pub align: u32,
@@ -18,7 +18,7 @@ pub struct Datum {
 }
 
 /// A data label.
-#[derive(Debug, Drop)]
+#[derive(Drop)]
 pub struct Label {
     pub name: Name,
     /// The names under which it is exported.
@@ -30,14 +30,14 @@ pub struct Label {
 }
 
 /// A global register.
-#[derive(Debug, Drop)]
+#[derive(Drop)]
 pub struct Global {
     pub name: Name,
     pub width: Width,
 }
 
 /// A program.
-#[derive(Debug, Drop)]
+#[derive(Drop)]
 pub struct Program {
     pub procs: Items<Proc>,
     /// The data of all units, in their order in memory.

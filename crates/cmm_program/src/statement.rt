@@ -7,7 +7,7 @@ use cmm_items::Items;
 use cmm_words::{Op2, Width};
 
 /// What an assignment assigns to.
-#[derive(Debug, Drop)]
+#[derive(Drop)]
 pub enum Lvalue {
     Target(Target),
     /// The word in memory at an address, which is to be a multiple of `aligned` bytes.
@@ -19,14 +19,14 @@ pub enum Lvalue {
 }
 
 /// The values from `from` to `to`, both included.
-#[derive(Clone, Copy, Debug, PartialEq, Eq)]
+#[derive(Clone, Copy, PartialEq, Eq)]
 pub struct Range {
     pub from: u64,
     pub to: u64,
 }
 
 /// Which values an arm of a switch is for.
-#[derive(Debug, Drop)]
+#[derive(Drop)]
 pub enum Case {
     /// Those in one of these ranges.
     In(Items<Range>),
@@ -35,7 +35,7 @@ pub enum Case {
 }
 
 /// An arm of a switch.
-#[derive(Debug, Drop)]
+#[derive(Drop)]
 #[cycle(statement)]
 pub struct Arm {
     pub case: Case,
@@ -43,7 +43,7 @@ pub struct Arm {
 }
 
 /// A statement.
-#[derive(Debug, Drop)]
+#[derive(Drop)]
 #[cycle(statement)]
 pub struct Statement {
     /// The count of its own tokens, those of the blocks inside it left out.
@@ -52,7 +52,7 @@ pub struct Statement {
 }
 
 /// What a statement is.
-#[derive(Debug, Drop)]
+#[derive(Drop)]
 #[cycle(statement)]
 pub enum Form {
     /// The empty statement.
