@@ -1,3 +1,4 @@
+mod Beginnings
 mod Finishing
 mod Numbered
 mod Numbering

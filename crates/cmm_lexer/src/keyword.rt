@@ -1,6 +1,6 @@
 //! The reserved words (C-- Language Specification 2.0, lexical form).
 
-ghost use Rattle.std.specs.Prelude.{◌≡◌, ◌≢◌, ◌<◌, [], slice_index_or, option_map, MatchOption};
+ghost use Rattle.std.specs.Prelude.{◌≡◌, ◌≢◌, ◌<◌, ◌-◌, [], slice_index_or, option_map, MatchOption};
 ghost use Rattle.cmm_lexer.specs.Spellings.{keyword_number, number_of, reserved};
 
 /// A reserved word, which is no name.
@@ -110,6 +110,48 @@ const KEYWORDS: [Keyword; 49] = [
     Keyword::Writes,
 ];
 
+/// For each letter from `a` on the reserved words that begin with it, by their numbers: the first, and the end.
+const BEGINNINGS: [(usize, usize); 26] = [
+    (0, 5),
+    (5, 12),
+    (12, 17),
+    (17, 18),
+    (18, 20),
+    (20, 22),
+    (22, 23),
+    (0, 0),
+    (23, 27),
+    (27, 28),
+    (0, 0),
+    (28, 29),
+    (29, 30),
+    (30, 31),
+    (0, 0),
+    (31, 33),
+    (0, 0),
+    (33, 37),
+    (37, 42),
+    (42, 45),
+    (45, 47),
+    (0, 0),
+    (47, 49),
+    (0, 0),
+    (0, 0),
+    (0, 0),
+];
+
+/// The reserved words of which some may begin with a byte, by their numbers: the first, and the end.
+fn beginning_with(byte: u8) -> (usize, usize)
+    ensures { result ≡ slice_index_or BEGINNINGS (byte - 97) (0, 0) }
+{
+    let place = usize::from(byte.saturating_sub(b'a'));
+    if place < BEGINNINGS.len() {
+        BEGINNINGS[place]
+    } else {
+        (0, 0)
+    }
+}
+
 impl Keyword {
     /// Its number among the reserved words, from 0.
     pub fn number(self) -> u8
@@ -135,9 +177,11 @@ impl Keyword {
     pub fn of_spelling(spelling: &[u8]) -> Option<Keyword>
         ensures { option_map keyword_number result ≡ number_of reserved spelling.now }
     {
-        for keyword in KEYWORDS.iter() {
+        let (first, end) = beginning_with(*spelling.first()?);
+        for place in first..end {
+            let keyword = KEYWORDS[place];
             if spelling == keyword.spelling().as_bytes() {
-                return Some(*keyword);
+                return Some(keyword);
             }
         }
         None

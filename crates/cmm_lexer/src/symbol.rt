@@ -1,6 +1,6 @@
 //! The symbols (C-- Language Specification 2.0, lexical form).
 
-ghost use Rattle.std.specs.Prelude.{◌≡◌, ◌≢◌, ◌<◌, [], slice_index_or, option_map, MatchOption};
+ghost use Rattle.std.specs.Prelude.{◌≡◌, ◌≢◌, ◌<◌, [], ◌∷◌, slice_index_or, option_map, MatchOption};
 ghost use Rattle.cmm_lexer.specs.Spellings.{symbol_number, number_of, symbols};
 
 /// A symbol.
@@ -95,12 +95,60 @@ impl Symbol {
     pub fn of_spelling(spelling: &[u8]) -> Option<Symbol>
         ensures { option_map symbol_number result ≡ number_of symbols spelling.now }
     {
-        for symbol in SYMBOLS.iter() {
-            if spelling == symbol.spelling().as_bytes() {
-                return Some(*symbol);
-            }
+        match spelling {
+            [byte] => Symbol::of_byte(*byte),
+            [first, second] => Symbol::of_pair(*first, *second),
+            _ => None,
         }
-        None
+    }
+
+    /// The symbol of one byte.
+    #[tactic(auto, unfolding(crate::specs::Spellings::symbols, crate::specs::Spellings::number_of))]
+    fn of_byte(byte: u8) -> Option<Symbol>
+        ensures { option_map symbol_number result ≡ number_of symbols (byte ∷ []) }
+    {
+        match byte {
+            b'{' => Some(Symbol::OpenBrace),
+            b'}' => Some(Symbol::CloseBrace),
+            b'(' => Some(Symbol::Open),
+            b')' => Some(Symbol::Close),
+            b'[' => Some(Symbol::OpenSquare),
+            b']' => Some(Symbol::CloseSquare),
+            b',' => Some(Symbol::Comma),
+            b';' => Some(Symbol::Semicolon),
+            b':' => Some(Symbol::Colon),
+            b'=' => Some(Symbol::Assign),
+            b'<' => Some(Symbol::Less),
+            b'>' => Some(Symbol::Greater),
+            b'+' => Some(Symbol::Plus),
+            b'-' => Some(Symbol::Minus),
+            b'*' => Some(Symbol::Star),
+            b'/' => Some(Symbol::Slash),
+            b'%' => Some(Symbol::Percent),
+            b'&' => Some(Symbol::Ampersand),
+            b'|' => Some(Symbol::Bar),
+            b'^' => Some(Symbol::Caret),
+            b'~' => Some(Symbol::Tilde),
+            _ => None,
+        }
+    }
+
+    /// The symbol of two bytes.
+    #[tactic(auto, unfolding(crate::specs::Spellings::symbols, crate::specs::Spellings::number_of))]
+    fn of_pair(first: u8, second: u8) -> Option<Symbol>
+        ensures { option_map symbol_number result ≡ number_of symbols (first ∷ second ∷ []) }
+    {
+        match (first, second) {
+            (b':', b':') => Some(Symbol::Colons),
+            (b'=', b'=') => Some(Symbol::Equal),
+            (b'!', b'=') => Some(Symbol::NotEqual),
+            (b'<', b'=') => Some(Symbol::LessEqual),
+            (b'>', b'=') => Some(Symbol::GreaterEqual),
+            (b'<', b'<') => Some(Symbol::ShiftLeft),
+            (b'>', b'>') => Some(Symbol::ShiftRight),
+            (b'.', b'.') => Some(Symbol::Range),
+            _ => None,
+        }
     }
 
     /// How it is spelled.

@@ -4,5 +4,5 @@ use Rattle.cmm_lexer.specs.Spellings.{reserved}
 use Rattle.cmm_lexer.proofs.keyword.Keyword.of_spelling.Given as goal
 
 -- no keyword before this one has the spelling
-abbrev pub invariant-loop-keyword : goal.invariant-loop-keyword
-invariant-loop-keyword l = (k : ℕ) → k < l.keyword-index → pointwise nat_eq l.spelling (get_or reserved k []) ≡ false
+abbrev pub invariant-loop-place : goal.invariant-loop-place
+invariant-loop-place l = (k : ℕ) → k < l.place → pointwise nat_eq l.spelling (get_or reserved k []) ≡ false
