@@ -21,6 +21,7 @@ use Rattle.cmm_program.specs.Typing.{is_typed, typed}
 use Rattle.cmm_program.specs.Tokens.{own_tokens, procedure_tokens}
 use Rattle.cmm_program.specs.Numbering.{AreNumbered, body_numbers, body_tokens, label_number, continuation_number, site_number}
 use Rattle.cmm_program.specs.declared.program.Program.{Program}
+use Rattle.cmm_program.specs.Limits.{data_limit, procedure_limit, procedure_token_limit, register_limit, site_span_limit, site_variable_limit, stackdata_limit, token_limit, unit_limit, variable_limit}
 use Rattle.cmm_ast.specs.declared.expression.Expr.{Expr}
 use Rattle.cmm_ast.specs.declared.unit.DatumForm.TheVariants.{Data}
 use Rattle.cmm_ast.specs.declared.unit.Initial.{Initial}
@@ -77,21 +78,21 @@ NamesAreThere = (us : List UnitTree) → AreAccepted us →
 
 -- the limits on a procedure
 pub record ProcKeepsLimits (p : Program) (q : Proc) : Type 0 where
-  pub unit : q.unit < 256
+  pub unit : q.unit < unit_limit
   pub formals : IsTrue (nat_le q.formals (length q.vars) && nat_le q.formals 64)
-  pub variables : length q.vars ≤ 1024
-  pub tokens : q.tokens ≤ 131072
+  pub variables : length q.vars ≤ variable_limit
+  pub tokens : q.tokens ≤ procedure_token_limit
   pub items : IsTrue (list_all is_item q.stack)
   pub continuations : IsTrue (list_all (is_continuation p q) q.conts)
 
 -- and those on numbers of procedures and registers, and on sums over all call sites
 pub record KeepsLimits (p : Program) : Type 0 where
   pub procedures : All (ProcKeepsLimits p) p.procs
-  pub procedure_count : length p.procs ≤ 65535
+  pub procedure_count : length p.procs ≤ procedure_limit
   pub main : p.main < length p.procs
-  pub registers : length p.globals ≤ 256
-  pub site_variables : sum_by (λ q. length q.sites * length q.vars) p.procs ≤ 8000000
-  pub site_spans : sum_by (λ q. sum_by (λ site. length site.spans) q.sites) p.procs ≤ 1000000
+  pub registers : length p.globals ≤ register_limit
+  pub site_variables : sum_by (λ q. length q.sites * length q.vars) p.procs ≤ site_variable_limit
+  pub site_spans : sum_by (λ q. sum_by (λ site. length site.spans) q.sites) p.procs ≤ site_span_limit
 
 abbrev pub LimitsAreKept : Type 0
 LimitsAreKept = (us : List UnitTree) → AreAccepted us → KeepsLimits (meaning_of us)
@@ -111,7 +112,7 @@ WaysAreThere = (us : List UnitTree) → AreAccepted us → All (λ q. IsTrue (li
 
 -- the stackdata of each procedure of accepted units takes at most 64 KiB
 abbrev pub StackdataFits : Type 0
-StackdataFits = (us : List UnitTree) → AreAccepted us → All (λ q. stackdata_size q.stack ≤ 65536) (meaning_of us).procs
+StackdataFits = (us : List UnitTree) → AreAccepted us → All (λ q. stackdata_size q.stack ≤ stackdata_limit) (meaning_of us).procs
 
 -- names and kinds of variables have at most 255 bytes
 pub record NamesShort (q : Proc) : Type 0 where
@@ -142,7 +143,7 @@ RegistersAscend = (us : List UnitTree) → IsStrictlySortedBy (slice_cmp nat_cmp
 
 -- the data of all units ends at most 64 MiB behind where it begins, before the first datum
 abbrev pub DataFits : Type 0
-DataFits = (us : List UnitTree) → AreAccepted us → let p = meaning_of us in end_before p (length p.datums) ≤ end_before p 0 + 67108864
+DataFits = (us : List UnitTree) → AreAccepted us → let p = meaning_of us in end_before p (length p.datums) ≤ end_before p 0 + data_limit
 
 -- no name of an accepted unit is broken
 abbrev pub NamesAreWhole : Type 0
@@ -208,7 +209,7 @@ SpansAreFew = (us : List UnitTree) → AreDerivedWithin us → All (λ q. All (�
 
 -- the limits on sums that come from counting tokens
 pub record KeepsCounts (p : Program) : Type 0 where
-  pub tokens : sum_by (λ q. q.tokens) p.procs ≤ 1000000
+  pub tokens : sum_by (λ q. q.tokens) p.procs ≤ token_limit
   pub datum_count : length p.datums < 2 ^ 32
   pub label_count : length p.labels < 2 ^ 32
 

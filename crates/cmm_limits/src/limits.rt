@@ -11,6 +11,7 @@ ghost use Rattle.cmm_static_semantics.specs.Statements.{scope_of};
 ghost use Rattle.cmm_rules.specs.declared.rule.Rule.TheVariants.{Limit};
 ghost use Rattle.cmm_proc_scope.specs.Bodies.{scope_of_body};
 ghost use Rattle.cmm_typing.specs.Fitting.{AreWords};
+ghost use Rattle.cmm_program.specs.Limits.{procedure_token_limit, variable_limit};
 
 use crate::stackdata::note_rooms;
 use cmm_ast::{Ident, Proc};
@@ -28,7 +29,7 @@ const VARIABLES_LIMIT: usize = 1024;
 
 /// Notes that a procedure has too many tokens: rule 40.
 fn note_tokens(proc: &Proc, best: &mut Option<Spot>)
-    ensures { best.new ≡ first_of best.old (unless (nat_le (proc.now.past - proc.now.name.token) 131072) Limit (proc.now.name.token + 131072)) }
+    ensures { best.new ≡ first_of best.old (unless (nat_le (proc.now.past - proc.now.name.token) procedure_token_limit) Limit (proc.now.name.token + procedure_token_limit)) }
 {
     let first = proc.name.token;
     let tokens = proc.past.saturating_sub(first);
@@ -39,7 +40,7 @@ fn note_tokens(proc: &Proc, best: &mut Option<Spot>)
 
 /// Notes the first variable past the limit: rule 40.
 fn note_variables(names: &[&Ident], best: &mut Option<Spot>)
-    ensures { best.new ≡ first_of best.old (past_limit Limit 1024 (λ i. i.token) (map (λ v. v.now) names.now)) }
+    ensures { best.new ≡ first_of best.old (past_limit Limit variable_limit (λ i. i.token) (map (λ v. v.now) names.now)) }
 {
     match names.get(VARIABLES_LIMIT) {
         Some(name) => unless(best, false, Rule::Limit, name.token),

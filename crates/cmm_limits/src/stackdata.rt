@@ -9,6 +9,7 @@ ghost use Rattle.cmm_static_semantics.specs.Spots.{first_of, unless};
 ghost use Rattle.cmm_limits.specs.inside.Ends.{IsWithin, form_piece};
 ghost use Rattle.cmm_limits.specs.Rooms.{words_in};
 ghost use Rattle.cmm_program.specs.Layout.{aligned_up, end_of};
+ghost use Rattle.cmm_program.specs.Limits.{stackdata_limit};
 ghost use Rattle.cmm_rules.specs.declared.rule.Rule.TheVariants.{Limit};
 ghost use Rattle.cmm_proc_scope.specs.Bodies.{scope_of_body};
 ghost use Rattle.cmm_typing.specs.Fitting.{AreWords};
@@ -27,7 +28,7 @@ const STACKDATA_LIMIT: u64 = 0x1_0000;
 fn aligned_up(align: u64, place: u64) -> u64
     requires align { 0 < align }
     requires small { align ≤ 16 }
-    requires place { place ≤ 65536 }
+    requires place { place ≤ stackdata_limit }
     ensures { result ≡ aligned_up align place }
 {
     (place + (align - 1)) / align * align
@@ -35,7 +36,7 @@ fn aligned_up(align: u64, place: u64) -> u64
 
 /// Where a count of words of a size ends from an offset on, unless that is past the limit.
 fn laid(place: u64, align: u64, size: u64, count: u64) -> Option<u64>
-    requires place { place ≤ 65536 }
+    requires place { place ≤ stackdata_limit }
     requires align { 0 < align }
     requires small { align ≤ 16 }
     requires size { 0 < size }
@@ -74,7 +75,7 @@ pub fn words_in<N: Names>(names: &N, count: &Option<Expr>) -> u64
 
 /// Where an alignment ends.
 fn after_alignment(alignment: &Int, place: u64) -> Option<u64>
-    requires { place ≤ 65536 }
+    requires { place ≤ stackdata_limit }
     ensures { IsWithin result (end_of place (limits.align_piece alignment.now.value ∷ [])) }
 {
     if is_alignment(alignment.value) {
@@ -87,7 +88,7 @@ fn after_alignment(alignment: &Int, place: u64) -> Option<u64>
 /// Where a room ends from a place on, unless that is past the limit.
 fn after_room<'a, N: Names>(names: &BodyNames<'a, N>, form: &RoomForm, place: u64) -> Option<u64>
     requires words { AreWords (senses (scope_of_body N.senses names.now)) }
-    requires place { place ≤ 65536 }
+    requires place { place ≤ stackdata_limit }
     ensures { IsWithin result (end_of place (form_piece (scope_of_body N.senses names.now) form.now ∷ [])) }
 {
     match form {
@@ -103,7 +104,7 @@ fn after_room<'a, N: Names>(names: &BodyNames<'a, N>, form: &RoomForm, place: u6
 /// The same where the place may be past the limit.
 fn after_any<'a, N: Names>(names: &BodyNames<'a, N>, room: &Room, place: Option<u64>) -> Option<u64>
     requires words { AreWords (senses (scope_of_body N.senses names.now)) }
-    requires place { ForSome place (λ p. p ≤ 65536) }
+    requires place { ForSome place (λ p. p ≤ stackdata_limit) }
     ensures { (at : ℕ) → IsWithin place at → IsWithin result (end_of at (limits.room_piece (scope_of_body N.senses names.now) room.now ∷ [])) }
 {
     match place {

@@ -31,7 +31,7 @@ use Rattle.cmm_program.specs.Orders.{target_width}
 use Rattle.cmm_program.specs.Bodies.{Mark, AtLabel, Branch, branches, within, after_inside}
 use Rattle.cmm_program.specs.Numbering.{AreNumbered, body_numbers, label_number, continuation_number, site_number, body_tokens}
 use Rattle.cmm_program.specs.Layout.{end_before, stackdata_size}
-use Rattle.cmm_program.specs.Limits.{data_limit, procedure_limit, procedure_token_limit, register_limit, site_span_limit, site_variable_limit, stackdata_limit, token_limit, unit_limit, variable_limit}
+use Rattle.cmm_program.specs.Limits.{data_limit, name_limit, procedure_limit, procedure_token_limit, register_limit, site_span_limit, site_variable_limit, stackdata_limit, token_limit, unit_limit, variable_limit}
 use Rattle.cmm_program.specs.Tokens.{own_tokens, procedure_tokens}
 use Rattle.cmm_program.specs.Typing.{is_alignment, same_width, constant_width, is_target, typed, has_width, is_typed, is_condition}
 
@@ -39,9 +39,9 @@ use Rattle.cmm_program.specs.Typing.{is_alignment, same_width, constant_width, i
 abbrev pub at_most_64 : {A : Type 0} → List A → Bool
 at_most_64 list = nat_le (length list) 64
 
--- a name has at most 255 bytes
+-- a name is not longer than its limit
 abbrev pub is_name : List ℕ → Bool
-is_name name = nat_le (length name) 255
+is_name name = nat_le (length name) name_limit
 
 abbrev pub below : ℕ → ℕ → Bool
 below limit n = nat_lt n limit

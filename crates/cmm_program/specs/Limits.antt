@@ -31,6 +31,12 @@ site_variable_limit = 8000000
 abbrev pub site_span_limit : ℕ
 site_span_limit = 1000000
 
+-- ---- of a name
+
+-- bytes of a name, or of the kind of a variable
+abbrev pub name_limit : ℕ
+name_limit = 255
+
 -- ---- of a procedure
 
 -- tokens

@@ -6,6 +6,7 @@ ghost use Rattle.cmm_program.specs.Layout.{aligned_up, stackdata_size, stackdata
 ghost use Rattle.cmm_program.specs.Frames.{stackdata_offset};
 ghost use Rattle.cmm_program.specs.Placed.{is_code_address, is_frame_size, is_pair_in, apart, pairs_apart, are_pairs, are_labels, is_stackdata_at, is_stackdata, is_row_placed, are_rows_placed, ascend_from, IsPlaced};
 ghost use Rattle.cmm_program.specs.InRange.{FitsFrames, IsInRange, is_item};
+ghost use Rattle.cmm_program.specs.Limits.{stackdata_limit};
 
 use crate::procedure::{Proc, StackItem};
 use crate::program::Program;
@@ -33,7 +34,7 @@ pub struct Placement {
 /// The least multiple of an alignment that is not below a place.
 fn next_aligned(align: u32, place: u64) -> u64
     requires align { 0 < align }
-    requires place { place ≤ 65536 }
+    requires place { place ≤ stackdata_limit }
     ensures place { result ≡ aligned_up align place }
     ensures near { result < 2 ^ 33 }
 {
@@ -44,7 +45,7 @@ fn next_aligned(align: u32, place: u64) -> u64
 /// The bytes of stackdata, from the first item to the end of the last.
 fn size_of_stackdata(items: &[StackItem]) -> u64
     requires items { IsTrue (list_all is_item items.now) }
-    requires size { stackdata_size items.now ≤ 65536 }
+    requires size { stackdata_size items.now ≤ stackdata_limit }
     ensures { result ≡ stackdata_size items.now }
 {
     let mut place = 0;
@@ -57,7 +58,7 @@ fn size_of_stackdata(items: &[StackItem]) -> u64
 /// The place of the first stackdata label, if there is one.
 fn first_label(items: &[StackItem]) -> Option<u64>
     requires items { IsTrue (list_all is_item items.now) }
-    requires size { stackdata_size items.now ≤ 65536 }
+    requires size { stackdata_size items.now ≤ stackdata_limit }
     ensures { result ≡ slice_get (stackdata_labels items.now) 0 }
 {
     let mut place = 0;
@@ -75,7 +76,7 @@ fn first_label(items: &[StackItem]) -> Option<u64>
 fn labels_stand_at(base: u64, items: &[StackItem], offsets: &[u32]) -> bool
     requires base { base < 2 ^ 32 }
     requires items { IsTrue (list_all is_item items.now) }
-    requires size { stackdata_size items.now ≤ 65536 }
+    requires size { stackdata_size items.now ≤ stackdata_limit }
     ensures { result ≡ are_labels base items.now offsets.now }
 {
     let mut place = 0;

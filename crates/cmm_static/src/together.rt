@@ -7,6 +7,7 @@ ghost use Rattle.cmm_static_semantics.specs.Linking.{program_of};
 ghost use Rattle.cmm_static.specs.inside.Flat.{flat_unit, some_starts};
 ghost use Rattle.cmm_static.specs.inside.Totals.{AreSums, are_within};
 ghost use Rattle.cmm_static.specs.inside.Units.{unit_flat};
+ghost use Rattle.cmm_program.specs.Limits.{register_limit, unit_limit};
 
 use crate::linking::starts;
 use crate::sums::Sums;
@@ -35,7 +36,7 @@ fn some_starts<'a>(units: &[UnitNames<'a>]) -> bool
 
 /// Whether no limit over all units is passed.
 fn are_within<'a>(units: &[UnitNames<'a>], linkage: &Linkage<'a>, sums: &Sums) -> bool
-    ensures { result ≡ (nat_le (length units.now) 256 && nat_le (length linkage.now.registers) 256 && are_within sums.now) }
+    ensures { result ≡ (nat_le (length units.now) unit_limit && nat_le (length linkage.now.registers) register_limit && are_within sums.now) }
 {
     let few_units = units.len() <= UNITS_LIMIT;
     let few_registers = linkage.register_count() <= REGISTERS_LIMIT;

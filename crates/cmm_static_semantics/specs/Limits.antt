@@ -20,6 +20,7 @@ use Rattle.cmm_ast.specs.declared.unit.Count.TheVariants as counts
 use Rattle.cmm_ast.specs.declared.unit.Initial.{Initial}
 use Rattle.cmm_program.specs.Layout.{Piece, end_of}
 use Rattle.cmm_program.specs.Typing.{is_alignment}
+use Rattle.cmm_program.specs.Limits.{data_limit, procedure_limit, procedure_token_limit, register_limit, site_span_limit, site_variable_limit, stackdata_limit, token_limit, unit_limit, variable_limit}
 use Rattle.cmm_rules.specs.declared.rule.Rule.TheVariants.{Limit}
 use Rattle.cmm_static_semantics.specs.declared.spot.Spot.{Spot}
 use Rattle.cmm_static_semantics.specs.Spots.{unless}
@@ -68,12 +69,12 @@ room_piece s r = elim r.form [
 -- 40: the stackdata of a procedure has more than 64 KiB, at each room that ends past them
 abbrev pub room_limits : Scope → ℕ → List Room → List Spot
 room_limits s place [] = []
-room_limits s place (r ∷ rs) = let end_ = end_of place (room_piece s r ∷ []) in unless (nat_le end_ 65536) Limit r.token ++ room_limits s end_ rs
+room_limits s place (r ∷ rs) = let end_ = end_of place (room_piece s r ∷ []) in unless (nat_le end_ stackdata_limit) Limit r.token ++ room_limits s end_ rs
 
 -- 40: a procedure has more than 131,072 tokens, from its name to its closing brace, at the one after them; or more than 1,024 variables, or
 -- too much stackdata
 abbrev pub proc_limits : Senses → Proc → List Spot
-proc_limits outer p = unless (nat_le (p.past - p.name.token) 131072) Limit (p.name.token + 131072) ++ past_limit Limit 1024 (λ d. d.name.token) (variables p) ++ room_limits (scope_of outer p) 0 (flat_map local_rooms (parts_of p.body))
+proc_limits outer p = unless (nat_le (p.past - p.name.token) procedure_token_limit) Limit (p.name.token + procedure_token_limit) ++ past_limit Limit variable_limit (λ d. d.name.token) (variables p) ++ room_limits (scope_of outer p) 0 (flat_map local_rooms (parts_of p.body))
 
 -- ---- call sites, and the spans in force at them
 
@@ -157,6 +158,6 @@ data_pieces program (u ∷ us) = flat_map (λ i. item_pieces (unit_senses progra
 -- and 1,000,000 tokens of spans over all sites
 abbrev pub sums_are_within : Program → List NamedUnit → Bool
 sums_are_within program us =
-    nat_le (length us) 256 && nat_le (over_units program token_count us) 1000000 && nat_le (over_units program proc_count us) 65535
-    && nat_le (end_of 0 (data_pieces program us)) 67108864 && nat_le (length (register_names us)) 256
-    && nat_le (over_units program site_variables us) 8000000 && nat_le (over_units program site_spans us) 1000000
+    nat_le (length us) unit_limit && nat_le (over_units program token_count us) token_limit && nat_le (over_units program proc_count us) procedure_limit
+    && nat_le (end_of 0 (data_pieces program us)) data_limit && nat_le (length (register_names us)) register_limit
+    && nat_le (over_units program site_variables us) site_variable_limit && nat_le (over_units program site_spans us) site_span_limit

@@ -43,10 +43,11 @@ use Rattle.cmm_static_semantics.specs.Mentions.{ident, listed, expr_names, prima
 use Rattle.cmm_static_semantics.specs.Items.{Within, parts_of}
 use Rattle.cmm_static_semantics.specs.Switches.{Head, heads}
 use Rattle.cmm_static_semantics.specs.Calls.{flow_names}
+use Rattle.cmm_program.specs.Limits.{name_limit}
 
 -- 40: a name or a kind has more than 255 bytes
 abbrev pub long_spots : Ident → List Spot
-long_spots i = unless (nat_le (length i.name) 255) Limit i.token
+long_spots i = unless (nat_le (length i.name) name_limit) Limit i.token
 
 abbrev pub of_text : Text → Ident
 of_text t = ident t.bytes t.token

@@ -4,13 +4,14 @@ use Rattle.std.specs.Option.{SomeIff}
 use Rattle.cmm_ast.specs.declared.procedure.RoomForm.{RoomForm}
 use Rattle.cmm_ast.specs.declared.procedure.RoomForm.TheVariants as rooms
 use Rattle.cmm_program.specs.Layout.{Piece}
+use Rattle.cmm_program.specs.Limits.{stackdata_limit}
 use Rattle.cmm_static_semantics.specs.Limits.{align_piece, bytes_of, piece_of}
 use Rattle.cmm_static_semantics.specs.Scopes.{Scope, senses, types}
 use Rattle.cmm_limits.specs.Rooms.{words_in}
 
 -- a place, or none where it is past 64 KiB
 abbrev pub IsWithin : Option ℕ → ℕ → Type 0
-IsWithin o place = SomeIff o (place ≤ 65536) place
+IsWithin o place = SomeIff o (place ≤ stackdata_limit) place
 
 -- the piece that a room is, by its form
 abbrev pub form_piece : Scope → RoomForm → Piece
