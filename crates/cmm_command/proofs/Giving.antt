@@ -23,11 +23,6 @@ number n = n
 abbrev pub limits : RunLimits → RunLimits
 limits l = l
 
--- memory ran out
-pub forgives : {A B : Type 0} (view : A → B) (o : Option B) (r : Result A CommandFault) → IsErrAnd r (λ d. d ≡ Memory) → Gives view o r
-forgives view o (Ok a) is = absurd is
-forgives view o (Err d) is = subst (λ (w : CommandFault). Gives view o (Err w)) (sym is) tt
-
 -- a step gives nothing
 pub stops : {A B C D : Type 0} (view : A → B) (seen : C → D) (o : Option B) (f : B → Option D) (e : CommandFault) (r : Result C CommandFault)
     → Gives view o (Err e) → IsErrAnd r (λ d. d ≡ e) → Gives seen (option_and_then f o) r

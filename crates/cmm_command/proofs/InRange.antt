@@ -1,18 +1,18 @@
 -- What words ask for keeps its limits.
-use Rattle.std.proofs.Common.{◌≡◌, ℕ, ◌%◌, ◌≤◌, Bool, true, false, cond, List, length, [], ◌∷◌, Option, Some, None, refl, ap, subst, sym, ◌∙◌, arith}
+use Rattle.std.proofs.Common.{◌≡◌, ℕ, ◌%◌, ◌≤◌, Bool, true, false, cond, List, length, [], ◌∷◌, Option, Some, None, refl, ap, subst, arith}
 use Rattle.std.specs.Prelude.{◌==◌, ◌&&◌, nat_le, IfSome, codes}
 use Rattle.std.specs.List.{All, list_all}
 use Rattle.std.proofs.lemmas.List.Elements.{All-cons, All-nil}
 use Rattle.std.proofs.lemmas.Bool.Decides.{nat_tests}
 use Rattle.std.proofs.lemmas.Bool.{eqb-true, and_parts}
 use Rattle.cmm_words.specs.Digits.{written}
-use Rattle.clap.specs.Words.{Row, Text, first_of, all_of}
+use Rattle.clap.specs.Words.{App, Row, Text, first_of, all_of}
 use Rattle.cmm_command.specs.declared.command.RunLimits.{RunLimits}
 use Rattle.cmm_command.specs.declared.first_word.FirstWord.{FirstWord}
 use Rattle.cmm_command.specs.declared.first_word.FirstWord.TheVariants as first
 use Rattle.cmm_command.specs.FirstWords.{first_word_in}
 use Rattle.cmm_command.specs.Laws.{CommandsAreInRange, IsInRange, IsLimited, IsName}
-use Rattle.cmm_command.specs.Meaning.{Meaning, build, build_of, elf, elf_of, exec, exec_of, generate, generate_of, meaning_by, meaning_of, run, run_of, segments, segments_of, walk, walk_of}
+use Rattle.cmm_command.specs.Meaning.{Meaning, build, build_of, elf, exec, exec_of, generate, generate_of, meaning_by, meaning_of, run, run_of, segments, segments_of, two_files, walk}
 use Rattle.cmm_command.specs.Numbers.{number_up_to, number_of, stack_of, steps_of}
 use Rattle.cmm_command.specs.Options.{build_app, elf_app, exec_app, generate_app, run_app, segments_app, walk_app}
 use Rattle.cmm_command.specs.Reading.{◌>>=◌, file_if_given, file_names, file_of, files_of, file_as_given, file_name, limits_of, number_in, read_or, sorted}
@@ -131,12 +131,18 @@ exec_within rows m is =
       limits_within rows c.with_ c.is,
     )
 
-walk_within : (rows : List Row) (m : Meaning) → walk_of rows ≡ Some m → IsInRange m
-walk_within rows m is =
-    let a = went (file_of (codes "image") rows) (λ image. file_of (codes "snapshot") rows >>= λ snapshot. Some (walk image snapshot)) m is in
-    let b = went (file_of (codes "snapshot") rows) (λ snapshot. Some (walk a.with_ snapshot)) m a.next in
-    let same : walk a.with_ b.with_ ≡ m = cc in
-    subst IsInRange same (file_short (codes "image") rows a.with_ a.is, file_short (codes "snapshot") rows b.with_ b.is)
+-- what is made of the names of two files
+two_within : (app : App) (other : Text) (words : List Text) (make : Text × Text → Meaning) (m : Meaning)
+    → ((files : Text × Text) → IsName files.0 × IsName files.1 → IsInRange (make files)) → (two_files app other words >>= λ files. Some (make files)) ≡ Some m → IsInRange m
+two_within app other words make m ranges is =
+    let a = went (two_files app other words) (λ files. Some (make files)) m is in
+    let b = went (sorted app words) (λ rows. file_of (codes "image") rows >>= λ image. file_of other rows >>= λ file. Some (image, file)) a.with_ a.is in
+    let c = went (file_of (codes "image") b.with_) (λ image. file_of other b.with_ >>= λ file. Some (image, file)) a.with_ b.next in
+    let d = went (file_of other b.with_) (λ file. Some (c.with_, file)) a.with_ c.next in
+    let files : (c.with_, d.with_) ≡ a.with_ = cc in
+    let same : make a.with_ ≡ m = cc in
+    subst IsInRange same (ranges a.with_ (subst (λ (f : Text × Text). IsName f.0 × IsName f.1) files
+    (file_short (codes "image") b.with_ c.with_ c.is, file_short other b.with_ d.with_ d.is)))
 
 number_within_limit : (text : Text) (n : ℕ) → number_of text ≡ Some n → n ≤ 999999999
 unfolding number_of
@@ -148,13 +154,6 @@ generate_within rows m is =
     let b = went (first_of (codes "number") rows) number_of a.with_ a.is in
     let same : generate a.with_ ≡ m = cc in
     subst IsInRange same (number_within_limit b.with_ a.with_ b.next)
-
-elf_within : (rows : List Row) (m : Meaning) → elf_of rows ≡ Some m → IsInRange m
-elf_within rows m is =
-    let a = went (file_of (codes "image") rows) (λ image. file_of (codes "file") rows >>= λ file. Some (elf image file)) m is in
-    let b = went (file_of (codes "file") rows) (λ file. Some (elf a.with_ file)) m a.next in
-    let same : elf a.with_ b.with_ ≡ m = cc in
-    subst IsInRange same (file_short (codes "image") rows a.with_ a.is, file_short (codes "file") rows b.with_ b.is)
 
 segments_within : (rows : List Row) (m : Meaning) → segments_of rows ≡ Some m → IsInRange m
 segments_within rows m is =
@@ -170,7 +169,7 @@ commands_are_in_range words m is = let w = went (first_word_in words) (λ word. 
     by first.Build h = let s = went (sorted build_app words) build_of m h in build_within s.with_ m s.next
     by first.Run h = let s = went (sorted run_app words) run_of m h in run_within s.with_ m s.next
     by first.Exec h = let s = went (sorted exec_app words) exec_of m h in exec_within s.with_ m s.next
-    by first.Walk h = let s = went (sorted walk_app words) walk_of m h in walk_within s.with_ m s.next
+    by first.Walk h = two_within walk_app (codes "snapshot") words (λ files. walk files.0 files.1) m (λ files are. are) h
     by first.Generate h = let s = went (sorted generate_app words) generate_of m h in generate_within s.with_ m s.next
-    by first.Elf h = let s = went (sorted elf_app words) elf_of m h in elf_within s.with_ m s.next
+    by first.Elf h = two_within elf_app (codes "file") words (λ files. elf files.0 files.1) m (λ files are. are) h
     by first.Segments h = let s = went (sorted segments_app words) segments_of m h in segments_within s.with_ m s.next

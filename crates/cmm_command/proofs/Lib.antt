@@ -1,5 +1,4 @@
 mod Giving
-mod Continuing
 mod Adding
 mod Simple
 mod Sorting

@@ -1,5 +1,5 @@
 -- What holds of the commands that words mean.
-use Rattle.std.specs.Prelude.{◌≡◌, ℕ, ◌%◌, ◌≤◌, List, length, Option, Some, IfSome}
+use Rattle.std.specs.Prelude.{◌≡◌, ◌%◌, ◌≤◌, List, length, Some, IfSome}
 use Rattle.std.specs.List.{All}
 use Rattle.clap.specs.Words.{Text}
 use Rattle.cmm_command.specs.declared.command.RunLimits.{RunLimits}

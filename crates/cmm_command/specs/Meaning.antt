@@ -1,7 +1,7 @@
 -- What the words of a command line mean.
 use Rattle.std.specs.Prelude.{ℕ, List, map, codes, Option, Some}
 use Rattle.std.specs.Option.{option_map}
-use Rattle.clap.specs.Words.{Row, Text}
+use Rattle.clap.specs.Words.{App, Row, Text}
 use Rattle.cmm_command.specs.declared.command.Command.{Command}
 use Rattle.cmm_command.specs.declared.command.Command.TheVariants as command
 use Rattle.cmm_command.specs.declared.command.RunLimits.{RunLimits}
@@ -41,14 +41,12 @@ abbrev pub exec_of : List Row → Option Meaning
 exec_of rows = files_of (codes "unit") rows >>= λ units. file_if_given (codes "client") rows >>= λ client.
     limits_of rows >>= λ limits. Some (exec units client limits)
 
-abbrev pub walk_of : List Row → Option Meaning
-walk_of rows = file_of (codes "image") rows >>= λ image. file_of (codes "snapshot") rows >>= λ snapshot. Some (walk image snapshot)
+-- the file of an image, and another file
+abbrev pub two_files : App → Text → List Text → Option (Text × Text)
+two_files app other words = sorted app words >>= λ rows. file_of (codes "image") rows >>= λ image. file_of other rows >>= λ file. Some (image, file)
 
 abbrev pub generate_of : List Row → Option Meaning
 generate_of rows = number_in rows >>= λ number. Some (generate number)
-
-abbrev pub elf_of : List Row → Option Meaning
-elf_of rows = file_of (codes "image") rows >>= λ image. file_of (codes "file") rows >>= λ file. Some (elf image file)
 
 abbrev pub segments_of : List Row → Option Meaning
 segments_of rows = file_of (codes "file") rows >>= λ file. Some (segments file)
@@ -57,9 +55,9 @@ unfoldable pub meaning_by : FirstWord → List Text → Option Meaning
 meaning_by first.Build words = sorted build_app words >>= build_of
 meaning_by first.Run words = sorted run_app words >>= run_of
 meaning_by first.Exec words = sorted exec_app words >>= exec_of
-meaning_by first.Walk words = sorted walk_app words >>= walk_of
+meaning_by first.Walk words = two_files walk_app (codes "snapshot") words >>= λ files. Some (walk files.0 files.1)
 meaning_by first.Generate words = sorted generate_app words >>= generate_of
-meaning_by first.Elf words = sorted elf_app words >>= elf_of
+meaning_by first.Elf words = two_files elf_app (codes "file") words >>= λ files. Some (elf files.0 files.1)
 meaning_by first.Segments words = sorted segments_app words >>= segments_of
 
 -- what words mean, by the first of them

@@ -4,12 +4,13 @@ ghost use Rattle.std.specs.Prelude.{◌≡◌, true, nat_le, length, map, option
 ghost use Rattle.std.specs.List.{list_all};
 ghost use Rattle.clap.specs.Words.{app_of, found_of, is_simple_and_free, rows_of};
 ghost use Rattle.cmm_command.specs.Reading.{Gives, file_if_given, file_name, file_of, file_names, files_of, limits_of, number_in, read_or, sorted};
+ghost use Rattle.cmm_command.specs.Meaning.{two_files};
 ghost use Rattle.cmm_command.specs.Numbers.{number_of, stack_of, steps_of};
 
 use crate::command::{RunLimits, USUAL_STACK, USUAL_STEPS};
 use crate::fault::CommandFault;
 use crate::numbers;
-use crate::options::{NUMBER, STACK, STEPS};
+use crate::options::{IMAGE, NUMBER, STACK, STEPS};
 use clap::error::ErrorKind;
 use clap::{ArgMatches, Command};
 use cmm_items::Items;
@@ -38,6 +39,21 @@ pub fn file<'a>(matches: &ArgMatches<'a>, id: &str) -> Result<&'a str, CommandFa
         Some(name) => file_name(name),
         None => Err(CommandFault::Usage),
     }
+}
+
+/// The file of an image, and another file, that words name for a command.
+pub fn two_files<'a>(
+    command: Command<'a>,
+    other: &str,
+    words: &'a [String],
+) -> Result<(&'a str, &'a str), CommandFault>
+    requires { is_simple_and_free (app_of command) ≡ true }
+    ensures { Gives (λ files. (files.0.now, files.1.now)) (two_files (app_of command.entry) other.now (map string_bytes words.entry.now)) result }
+{
+    let matches = sorted(command, words)?;
+    let image = file(&matches, IMAGE)?;
+    let file = file(&matches, other)?;
+    Ok((image, file))
 }
 
 /// The files that have to be named.

@@ -54,6 +54,7 @@ fn asked<'a>(
 }
 
 /// What words that begin with `build` ask for.
+#[tactic(auto, unfolding(crate::specs::Meaning::meaning_by))]
 fn build<'a>(alloc: Global, words: &'a [String]) -> Result<Command<'a>, CommandFault>
     ensures { Gives plain (meaning_by first.Build (map string_bytes words.entry.now)) result }
 {
@@ -64,6 +65,7 @@ fn build<'a>(alloc: Global, words: &'a [String]) -> Result<Command<'a>, CommandF
 }
 
 /// What words that begin with `run` ask for.
+#[tactic(auto, unfolding(crate::specs::Meaning::meaning_by))]
 fn run<'a>(alloc: Global, words: &'a [String]) -> Result<Command<'a>, CommandFault>
     ensures { Gives plain (meaning_by first.Run (map string_bytes words.entry.now)) result }
 {
@@ -81,6 +83,7 @@ fn run<'a>(alloc: Global, words: &'a [String]) -> Result<Command<'a>, CommandFau
 }
 
 /// What words that begin with `exec` ask for.
+#[tactic(auto, unfolding(crate::specs::Meaning::meaning_by))]
 fn exec<'a>(alloc: Global, words: &'a [String]) -> Result<Command<'a>, CommandFault>
     ensures { Gives plain (meaning_by first.Exec (map string_bytes words.entry.now)) result }
 {
@@ -96,16 +99,16 @@ fn exec<'a>(alloc: Global, words: &'a [String]) -> Result<Command<'a>, CommandFa
 }
 
 /// What words that begin with `walk` ask for.
+#[tactic(auto, using(crate::proofs::Simple::walk_simple), unfolding(crate::specs::Meaning::meaning_by))]
 fn walk<'a>(alloc: Global, words: &'a [String]) -> Result<Command<'a>, CommandFault>
     ensures { Gives plain (meaning_by first.Walk (map string_bytes words.entry.now)) result }
 {
-    let matches = sorted::sorted(options::walk(alloc)?, words)?;
-    let image = sorted::file(&matches, IMAGE)?;
-    let snapshot = sorted::file(&matches, SNAPSHOT)?;
+    let (image, snapshot) = sorted::two_files(options::walk(alloc)?, SNAPSHOT, words)?;
     Ok(Command::Walk { image, snapshot })
 }
 
 /// What words that begin with `gen` ask for.
+#[tactic(auto, unfolding(crate::specs::Meaning::meaning_by))]
 fn generate<'a>(alloc: Global, words: &'a [String]) -> Result<Command<'a>, CommandFault>
     ensures { Gives plain (meaning_by first.Generate (map string_bytes words.entry.now)) result }
 {
@@ -115,16 +118,16 @@ fn generate<'a>(alloc: Global, words: &'a [String]) -> Result<Command<'a>, Comma
 }
 
 /// What words that begin with `elf` ask for.
+#[tactic(auto, using(crate::proofs::Simple::elf_simple), unfolding(crate::specs::Meaning::meaning_by))]
 fn elf<'a>(alloc: Global, words: &'a [String]) -> Result<Command<'a>, CommandFault>
     ensures { Gives plain (meaning_by first.Elf (map string_bytes words.entry.now)) result }
 {
-    let matches = sorted::sorted(options::elf(alloc)?, words)?;
-    let image = sorted::file(&matches, IMAGE)?;
-    let file = sorted::file(&matches, FILE)?;
+    let (image, file) = sorted::two_files(options::elf(alloc)?, FILE, words)?;
     Ok(Command::Elf { image, file })
 }
 
 /// What words that begin with `segments` ask for.
+#[tactic(auto, unfolding(crate::specs::Meaning::meaning_by))]
 fn segments<'a>(alloc: Global, words: &'a [String]) -> Result<Command<'a>, CommandFault>
     ensures { Gives plain (meaning_by first.Segments (map string_bytes words.entry.now)) result }
 {

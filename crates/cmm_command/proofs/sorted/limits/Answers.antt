@@ -1,13 +1,18 @@
-use Rattle.std.proofs.Common.{ℕ, List, Option, Ok, Err, Result, codes, refl}
+use Rattle.std.proofs.Common.{ℕ, List, Option, Some, Ok, Err, Result, codes, refl}
 use Rattle.clap.specs.Words.{Row, first_of, found_of, rows_of}
 use Rattle.cmm_command.specs.declared.command.RunLimits.{RunLimits}
 use Rattle.cmm_command.specs.declared.fault.CommandFault.{CommandFault}
 use Rattle.cmm_command.specs.Numbers.{stack_of, steps_of}
-use Rattle.cmm_command.specs.Reading.{read_or}
-use Rattle.cmm_command.proofs.Continuing.{after_steps, with_stack}
+use Rattle.cmm_command.specs.Reading.{◌>>=◌, read_or}
 use Rattle.cmm_command.proofs.Giving.{goes, limits, number, reads_along, stops, text_if_given}
 use Rattle.cmm_command.proofs.Sorting.{first-is}
 use Rattle.cmm_command.proofs.sorted.limits.Goals as goal
+
+abbrev with_stack : ℕ → ℕ → Option RunLimits
+with_stack steps stack = Some (record { steps = steps; stack = stack })
+
+abbrev after_steps : List Row → ℕ → Option RunLimits
+after_steps rs steps = read_or 1048576 stack_of (first_of (codes "stack") rs) >>= with_stack steps
 
 abbrev steps_in : List Row → Option ℕ
 steps_in rs = read_or 1000000000 steps_of (first_of (codes "steps") rs)
