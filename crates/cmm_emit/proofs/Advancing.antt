@@ -123,11 +123,18 @@ module _ (p : Program) (procs : List Proc) (graphs : List Graph) (found : List P
   pub next : first_label base procs graphs (n + 1) ≡ first + (node_count + site_count)
   next = first_label_next base procs graphs n one.procedure g one.is_procedure one.is_graph
 
+  abbrev all : ℕ
+  all = first_label base procs graphs (length procs)
+
+  among : first + (node_count + site_count) ≤ all
+  among =
+      let later = first_label_later base procs graphs (n + 1) (length procs) (omega (arith, less_count)) in
+      omega (arith, later, next)
+
   within : first + (node_count + site_count) ≤ length labels
   within =
-      let later = first_label_later base procs graphs (n + 1) (length procs) (omega (arith, less_count)) in
       let count = have.count in
-      omega (arith, later, count, next)
+      omega (arith, among, count)
 
   pub nodes_counted : length c.nodes ≡ node_count
   nodes_counted = ap (λ (ls : List Label). length ls) one.made.nodes ∙ length-labels_from first node_count
@@ -142,7 +149,7 @@ module _ (p : Program) (procs : List Proc) (graphs : List Graph) (found : List P
   site_number k less = ap (λ (l : Label). l.number) (ap (λ (ls : List Label). label_at ls k) one.made.sites ∙ label_from (first + node_count) site_count k (record { number = 0 }) less)
 
   free : (m : ℕ) → first ≤ m → m < first + (node_count + site_count) → slice_get labels m ≡ Some (Inner false)
-  free m least less = have.fresh m least (omega (arith, less, within))
+  free m least less = have.fresh m least (omega (arith, less, among))
 
   pub node_free : (k : ℕ) → k < node_count → slice_get labels (label_at c.nodes k).number ≡ Some (Inner false)
   node_free k less =
@@ -321,33 +328,33 @@ module _ (p : Program) (procs : List Proc) (graphs : List Graph) (found : List P
       ((omega (arith, number, same)), omega (arith, number, same, inside))
 
   module _ (new : List Meaning) (places : PlacesOwn c labels new) where
-    stays : (m : ℕ) → ((first ≤ m) × (m < first + (node_count + site_count)) → ⊥) → slice_get new m ≡ slice_get labels m
-    stays m other = by (places.each m)
+    stays : (m : ℕ) → m < length labels → ((first ≤ m) × (m < first + (node_count + site_count)) → ⊥) → slice_get new m ≡ slice_get labels m
+    stays m there other = by (places.each m)
       where
-        by : (slice_get new m ≡ slice_get labels m) ⊎ (IsOwn c m × (slice_get new m ≡ Some (Inner true))) → slice_get new m ≡ slice_get labels m
+        by : (slice_get new m ≡ slice_get labels m) ⊎ ((IsOwn c m ⊎ (length labels ≤ m)) × (slice_get new m ≡ Some (Inner true))) → slice_get new m ≡ slice_get labels m
         by (inl same) = same
-        by (inr own) = absurd (other (is_own_within m own.0))
+        by (inr (inl own, is)) = absurd (other (is_own_within m own))
+        by (inr (inr behind, is)) = absurd (omega (arith, there, behind))
 
     still_inner : (m : ℕ) → symbol_count p ≤ m → m < length new → IsTrue (is_inner (get_or new m (Inner false)))
     still_inner m least less = by (places.each m)
       where
-        by : (slice_get new m ≡ slice_get labels m) ⊎ (IsOwn c m × (slice_get new m ≡ Some (Inner true))) → is_inner (get_or new m (Inner false)) ≡ true
+        by : (slice_get new m ≡ slice_get labels m) ⊎ ((IsOwn c m ⊎ (length labels ≤ m)) × (slice_get new m ≡ Some (Inner true))) → is_inner (get_or new m (Inner false)) ≡ true
         by (inl same) =
-            let count = places.count in
-            let inside : m < length labels = omega (arith, less, count) in
+            let inside : m < length labels = slice_get_within labels m (get_or new m (Inner false)) (sym same ∙ slice_get-get_or new m (Inner false) less) in
             let there = slice_get-get_or labels m (Inner false) inside in
             ap is_inner (get_or_from_slice_get new m (get_or labels m (Inner false)) (Inner false) (same ∙ there)) ∙ have.inner m least inside
         by (inr own) = ap is_inner (get_or_from_slice_get new m (Inner true) (Inner false) own.1)
 
     pub labels_next : HaveLabels p procs graphs (n + 1) new
     labels_next = record {
-      count = places.count ∙ have.count;
-      symbols = λ k less. stays k (λ own. omega (arith, own.0, less, far)) ∙ have.symbols k less;
-      limit = stays (symbol_count p) (λ own. omega (arith, own.0, far)) ∙ have.limit;
-      client = stays (symbol_count p + 1) (λ own. omega (arith, own.0, far)) ∙ have.client;
+      count = let more = places.count in let count = have.count in omega (arith, more, count);
+      symbols = λ k less. stays k (omega (arith, less, far, within)) (λ own. omega (arith, own.0, less, far)) ∙ have.symbols k less;
+      limit = stays (symbol_count p) (omega (arith, far, within)) (λ own. omega (arith, own.0, far)) ∙ have.limit;
+      client = stays (symbol_count p + 1) (omega (arith, far, within)) (λ own. omega (arith, own.0, far)) ∙ have.client;
       inner = still_inner;
       fresh = λ k least less.
-          stays k (λ own. omega (arith, own.1, least, next)) ∙ have.fresh k (omega (arith, least, next)) (let count = places.count in omega (arith, less, count));
+          stays k (let count = have.count in omega (arith, less, count)) (λ own. omega (arith, own.1, least, next)) ∙ have.fresh k (omega (arith, least, next)) less;
     }
 
   -- ---- its code

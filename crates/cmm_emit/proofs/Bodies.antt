@@ -39,7 +39,7 @@ use Rattle.cmm_select.specs.Operands.{CanBringOperand, most_for, operand_at}
 use Rattle.cmm_select.specs.declared.operand.Operand.{Operand as CodeOperand}
 use Rattle.cmm_select.specs.declared.operand.Operand.TheVariants as code
 use Rattle.cmm_select.specs.declared.source.Source.TheVariants as source
-use Rattle.cmm_select.specs.Switches.{Switches, label_of}
+use Rattle.cmm_select.specs.Switches.{Switches, label_of, ranges_in}
 use Rattle.cmm_calls.specs.Calls.{CutsTo, JumpsBy}
 use Rattle.cmm_calls.specs.Copying.{CopiesIn, PutsEachTo, values_to}
 use Rattle.cmm_calls.specs.Frames.{entry_cost}
@@ -49,7 +49,7 @@ use Rattle.cmm_emit_laws.specs.NodeCode.{GoesOn, IsLabelOf, IsPutInto, places_of
 use Rattle.cmm_emit.proofs.Operands.{destination_is_of, operand_is_of, operands_are_of, target_is_of, targets_are_global, targets_are_of}
 use Rattle.cmm_emit.specs.declared.context.Context.{Context}
 use Rattle.cmm_emit.specs.declared.context.Targets.{Targets}
-use Rattle.cmm_emit.specs.Costs.{branch_cost, copy_cost, operand_cost, rvalue_cost, store_cost, switch_cost}
+use Rattle.cmm_emit.specs.Costs.{branch_cost, copy_cost, operand_cost, rvalue_cost, store_cost}
 use Rattle.cmm_emit.specs.Naming.{IsNamed, argument_operand, argument_operands, can_begin, can_go_to, can_land, can_return, code_destination, code_operand, has_arm, has_both, has_destination, has_local, has_node, has_operand, has_target, place, target_destination, target_destinations, variable_places}
 use Rattle.cmm_emit.specs.Standing.{CodesNode, CodesOwn, CodesWhole, IsReady, PutsValue}
 use Rattle.cmm_emit_laws.specs.Represented.{stack_region}
@@ -88,16 +88,16 @@ module _ (labels : List Meaning) (p : Context) (y : Targets) (ready : IsReady la
   }
 
   pub switch_codes : (value : Operand) (arms : List Arm) (otherwise : NodeId) → IsTrue (has_operand p y value) → IsTrue (list_all (has_arm p y) arms) →
-      Switches (switch_cost p y value arms) (code_operand p y value) p.nodes arms x from to →
+      Switches (operand_cost p y value + 20 * ranges_in arms) (code_operand p y value) p.nodes arms x from to →
       CodesNode p y (Switch value arms otherwise) x from to
   switch_codes value arms otherwise has there switches s c l f q n is-x of at goes = record {
     operand = code_operand p y value;
     labels = p.nodes;
     on = to;
-    count = switch_cost p y value arms;
+    count = operand_cost p y value + 20 * ranges_in arms;
     is_value = operand_is_of labels p y ready s c l f q of value has;
     there = λ k arm is. of.nodes arm.to (grind (arith, nat_tests, list_all_get (has_arm p y) arms k arm there is));
-    switches = moved (λ z a. Switches (switch_cost p y value arms) (code_operand p y value) p.nodes arms z a to) is-x at switches;
+    switches = moved (λ z a. Switches (operand_cost p y value + 20 * ranges_in arms) (code_operand p y value) p.nodes arms z a to) is-x at switches;
     goes_on = goes;
     few = omega arith;
   }

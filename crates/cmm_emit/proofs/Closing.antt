@@ -110,7 +110,7 @@ module _ (p : Program) (procs : List Proc) (graphs : List Graph) (o : Outline) w
         let now = both_placed labels have mid new is also in
         let counted = placed_counted labels have in
         record {
-          count = ap (λ (ms : List Meaning). length ms) now ∙ (counted ∙ have.count);
+          count = let size = ap (λ (ms : List Meaning). length ms) now in let count = have.count in omega (arith, size, counted, count);
           symbols = λ k inside. ap (λ (ms : List Meaning). slice_get ms k) now ∙ (symbols_stay labels have k inside ∙ have.symbols k inside);
           inner = λ k least inside.
               let within : k < length labels = let size = ap (λ (ms : List Meaning). length ms) now in omega (arith, inside, size, counted) in

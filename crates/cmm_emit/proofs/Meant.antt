@@ -96,14 +96,17 @@ module _ (p : Program) (procs : List Proc) (graphs : List Graph) (count : ℕ) (
       behind k (omega (arith, least))
       ∙ (right_at middle right (k - numbers) (omega (arith, least, middle_counted)) ∙ inner_at total (k - numbers - length middle) (omega (arith, least, less, middle_counted)))
 
+  all_counted : length labels ≡ first_label (first_own p) procs graphs (length procs)
+  all_counted = labels_counted ∙ (sym (first_label_shift (symbol_count p) 2 procs graphs count) ∙ ap (λ (n : ℕ). first_label (first_own p) procs graphs n) (sym counted))
+
   pub have_labels : HaveLabels p procs graphs 0 labels
   have_labels = record {
-    count = labels_counted ∙ (sym (first_label_shift (symbol_count p) 2 procs graphs count) ∙ ap (λ (n : ℕ). first_label (first_own p) procs graphs n) (sym counted));
+    count = omega (arith, all_counted);
     symbols = λ k less. symbol_is k less (nat_le numbers k) refl;
     limit = free (symbol_count p) (omega arith) (omega (arith, grows));
     client = free (symbol_count p + 1) (omega arith) (omega (arith, grows));
     inner = λ k least less. ap is_inner (get_or_from_slice_get labels k (Inner false) (Inner false) (free k least (omega (arith, less, labels_counted))));
-    fresh = λ k least less. free k (let base = first_none (first_own p) procs graphs in omega (arith, least, base)) (omega (arith, less, labels_counted));
+    fresh = λ k least less. free k (let base = first_none (first_own p) procs graphs in omega (arith, least, base)) (omega (arith, less, labels_counted, all_counted));
   }
 
 -- of the outline of a unit

@@ -1,9 +1,9 @@
 -- A node or a site gets its place: labels stay ready, and its label is placed.
-use Rattle.std.proofs.Common.{◌≡◌, ◌≢◌, ◌⊎◌, inl, inr, ℕ, ◌<◌, sym, ◌∙◌, ap, subst, refl, List, length, length-set, get_or, set, slice_get, Option, Some, None, true, false, Bool, IfSome, IsTrue, arith}
+use Rattle.std.proofs.Common.{◌≡◌, ◌≢◌, ◌⊎◌, inl, inr, ℕ, zero, suc, ◌+◌, ◌<◌, ◌≤◌, [], ◌∷◌, ◌++◌, replicate, length-append, sym, ◌∙◌, ap, subst, refl, List, length, length-set, get_or, set, slice_get, Option, Some, None, true, false, Bool, IfSome, IsTrue, arith}
 use Rattle.std.proofs.lemmas.Bool.Decides.{nat_tests}
 use Rattle.std.proofs.lemmas.List.{get_or-set_other, get_or-set_same}
 use Rattle.std.proofs.lemmas.Option.{get_or_from_slice_get, slice_get-get_or, slice_get_within}
-use Rattle.rv_asm.proofs.Shared.{AreKept, fits_kept, kept_placed}
+use Rattle.rv_asm.proofs.Shared.{AreKept, fits_kept, kept_more, kept_placed}
 use Rattle.rv_asm.specs.Assembly.{IsInner, IsLabel, IsTarget, is_inner, is_target, meaning}
 use Rattle.rv_asm.specs.declared.part.Label.{Label}
 use Rattle.rv_asm.specs.declared.part.Meaning.{Meaning}
@@ -17,7 +17,10 @@ use Rattle.cmm_graph.specs.declared.node.NodeKind.{NodeKind}
 use Rattle.cmm_graph.specs.declared.node.NodeKind.TheVariants.{Assign, Branch, Call, CopyIn, Cut, Entry, Goto, Host, Jump, Return, Stop, Store, Switch, Yield}
 use Rattle.cmm_graph.specs.declared.number.SiteId.{SiteId}
 use Rattle.cmm_live.specs.Sites.{site_of}
-use Rattle.cmm_emit.specs.LaidNodes.{AreLaid, HaveSites}
+use Rattle.cmm_select.specs.Switches.{MakesInner}
+use Rattle.cmm_graph.specs.declared.graph.Graph.{Graph}
+use Rattle.cmm_graph.specs.declared.number.NodeId.{NodeId}
+use Rattle.cmm_emit.specs.LaidNodes.{AreLaid, HaveSites, IsOwn, PlacesOwn, SitesWait}
 use Rattle.cmm_emit.specs.Naming.{has_kind, label_at, site_label}
 use Rattle.cmm_emit.specs.Standing.{CanWait, IsReady, labels_with}
 
@@ -144,3 +147,63 @@ module _ (labels : List Meaning) (p : Context) (y : Targets) (kind : NodeKind) (
             (λ e. sites.of_none site.number k (waits_within p y kind site there is) inside e) (laid.each k inside);
         apart = laid.apart;
       }
+
+-- ---- labels that code makes for itself
+
+nothing_behind : (xs : List Meaning) → xs ++ [] ≡ xs
+nothing_behind [] = refl
+nothing_behind (x ∷ xs) = ap (λ (rest : List Meaning). x ∷ rest) (nothing_behind xs)
+
+pub makes_same : {old new : List Meaning} → new ≡ old → MakesInner 0 old new
+makes_same {old} is = record { count = 0; few = omega arith; is = is ∙ sym (nothing_behind old) }
+
+get_front : (xs ys : List Meaning) (n : ℕ) (v : Meaning) → slice_get xs n ≡ Some v → slice_get (xs ++ ys) n ≡ Some v
+get_front [] ys n v is = absurd (cc (is))
+get_front (x ∷ xs) ys zero v is = is
+get_front (x ∷ xs) ys (suc n) v is = get_front xs ys n v is
+
+made_behind : (c n : ℕ) → (slice_get (replicate c (Inner true)) n ≡ slice_get [] n) ⊎ (slice_get (replicate c (Inner true)) n ≡ Some (Inner true))
+made_behind zero n = inl refl
+made_behind (suc c) zero = inr refl
+made_behind (suc c) (suc n) = made_behind c n
+
+behind_or_same : (xs : List Meaning) (c n : ℕ) →
+    (slice_get (xs ++ replicate c (Inner true)) n ≡ slice_get xs n) ⊎ ((length xs ≤ n) × (slice_get (xs ++ replicate c (Inner true)) n ≡ Some (Inner true)))
+behind_or_same [] c n = elim (made_behind c n) [ inl same ↦ inl same | inr made ↦ inr (omega arith, made) ]
+behind_or_same (x ∷ xs) c zero = inl refl
+behind_or_same (x ∷ xs) c (suc n) = elim (behind_or_same xs c n) [ inl same ↦ inl same | inr made ↦ inr (omega (arith, made.0), made.1) ]
+
+module _ (p : Context) (most : ℕ) (old new : List Meaning) (made : MakesInner most old new) where
+  abbrev more : List Meaning
+  more = replicate made.count (Inner true)
+
+  still : (n : ℕ) (v : Meaning) → slice_get old n ≡ Some v → slice_get new n ≡ Some v
+  still n v is = ap (λ (ms : List Meaning). slice_get ms n) made.is ∙ get_front old more n v is
+
+  pub ready_made : (y : Targets) → IsReady old p y → IsReady new p y
+  ready_made y ready = ready_kept (subst (AreKept old) (sym made.is) (kept_more old more)) p y ready
+
+  pub laid_made : (placed : List Bool) → AreLaid old p placed → AreLaid new p placed
+  laid_made placed laid = record {
+    size = laid.size;
+    each = λ k inside. still (label_at p.nodes k).number (Inner (has placed k)) (laid.each k inside);
+    apart = laid.apart;
+  }
+
+  pub waits_made : (g : Graph) (placed : List Bool) (next : Option NodeId) → SitesWait p g old placed next → SitesWait p g new placed next
+  waits_made g placed next waits k node is comes = by (site_of node.kind) (waits k node is comes)
+    where
+      by : (o : Option SiteId) → IfSome o (λ site. slice_get old (site_label p site).number ≡ Some (Inner false)) → IfSome o (λ site. slice_get new (site_label p site).number ≡ Some (Inner false))
+      by None can = tt
+      by (Some site) can = still (site_label p site).number (Inner false) can
+
+  pub own_made : PlacesOwn p old new
+  own_made = record {
+    count = let e : length new ≡ length old + length more = ap length made.is ∙ length-append old more in omega (arith, e);
+    each = λ n. by n (behind_or_same old made.count n);
+  }
+    where
+      by : (n : ℕ) → (slice_get (old ++ more) n ≡ slice_get old n) ⊎ ((length old ≤ n) × (slice_get (old ++ more) n ≡ Some (Inner true))) →
+          (slice_get new n ≡ slice_get old n) ⊎ ((IsOwn p n ⊎ (length old ≤ n)) × (slice_get new n ≡ Some (Inner true)))
+      by n (inl same) = inl (ap (λ (ms : List Meaning). slice_get ms n) made.is ∙ same)
+      by n (inr behind) = inr (inr behind.0, ap (λ (ms : List Meaning). slice_get ms n) made.is ∙ behind.1)

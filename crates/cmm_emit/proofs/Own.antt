@@ -1,5 +1,5 @@
 -- Labels of nodes and of sites come to places, and all others stay as they are.
-use Rattle.std.proofs.Common.{◌≡◌, ◌≢◌, ◌⊎◌, inl, inr, ℕ, zero, suc, ◌<◌, refl, sym, ◌∙◌, ap, subst, arith, true, false, List, [], ◌∷◌, length, length-set, set, Some, slice_get}
+use Rattle.std.proofs.Common.{◌≡◌, ◌≢◌, ◌⊎◌, inl, inr, ℕ, zero, suc, ◌<◌, ◌≤◌, refl, sym, ◌∙◌, ap, subst, arith, true, false, List, [], ◌∷◌, length, length-set, set, Some, slice_get}
 use Rattle.std.specs.Prelude.{◌&&◌}
 use Rattle.std.proofs.lemmas.Bool.{and_parts}
 use Rattle.std.proofs.lemmas.Bool.Decides.{nat_tests}
@@ -29,22 +29,24 @@ set_elsewhere (y ∷ xs) (suc n) (suc k) x differ = set_elsewhere xs n k x (λ e
 
 module _ (p : Context) where
   pub own_none : (labels : List Meaning) → PlacesOwn p labels labels
-  own_none labels = record { count = refl; each = λ n. inl refl }
+  own_none labels = record { count = omega arith; each = λ n. inl refl }
 
   pub own_then : (a b c : List Meaning) → PlacesOwn p a b → PlacesOwn p b c → PlacesOwn p a c
-  own_then a b c first second = record { count = second.count ∙ first.count; each = λ n. by n (second.each n) (first.each n) }
+  own_then a b c first second = record { count = let more = first.count in omega (arith, more, second.count); each = λ n. by n (second.each n) (first.each n) }
     where
-      by : (n : ℕ) → (slice_get c n ≡ slice_get b n) ⊎ (IsOwn p n × (slice_get c n ≡ Some (Inner true))) →
-          (slice_get b n ≡ slice_get a n) ⊎ (IsOwn p n × (slice_get b n ≡ Some (Inner true))) → (slice_get c n ≡ slice_get a n) ⊎ (IsOwn p n × (slice_get c n ≡ Some (Inner true)))
-      by n (inr own) before = inr own
+      by : (n : ℕ) → (slice_get c n ≡ slice_get b n) ⊎ ((IsOwn p n ⊎ (length b ≤ n)) × (slice_get c n ≡ Some (Inner true))) →
+          (slice_get b n ≡ slice_get a n) ⊎ ((IsOwn p n ⊎ (length a ≤ n)) × (slice_get b n ≡ Some (Inner true))) →
+          (slice_get c n ≡ slice_get a n) ⊎ ((IsOwn p n ⊎ (length a ≤ n)) × (slice_get c n ≡ Some (Inner true)))
+      by n (inr (inl own, is)) before = inr (inl own, is)
+      by n (inr (inr behind, is)) before = inr (inr (omega (arith, first.count, behind)), is)
       by n (inl same) (inl also) = inl (same ∙ also)
       by n (inl same) (inr own) = inr (own.0, same ∙ own.1)
 
   own_set : (labels : List Meaning) (m : ℕ) → IsOwn p m → m < length labels → PlacesOwn p labels (set labels m (Inner true))
-  own_set labels m own less = record { count = length-set labels m (Inner true); each = λ n. by n (grind arith) }
+  own_set labels m own less = record { count = let e = length-set labels m (Inner true) in omega (arith, e); each = λ n. by n (grind arith) }
     where
-      by : (n : ℕ) → (n ≡ m) ⊎ (n ≢ m) → (slice_get (set labels m (Inner true)) n ≡ slice_get labels n) ⊎ (IsOwn p n × (slice_get (set labels m (Inner true)) n ≡ Some (Inner true)))
-      by n (inl same) = inr (subst (IsOwn p) (sym same) own, ap (λ (k : ℕ). slice_get (set labels m (Inner true)) k) same ∙ set_there labels m (Inner true) less)
+      by : (n : ℕ) → (n ≡ m) ⊎ (n ≢ m) → (slice_get (set labels m (Inner true)) n ≡ slice_get labels n) ⊎ ((IsOwn p n ⊎ (length labels ≤ n)) × (slice_get (set labels m (Inner true)) n ≡ Some (Inner true)))
+      by n (inl same) = inr (inl (subst (IsOwn p) (sym same) own), ap (λ (k : ℕ). slice_get (set labels m (Inner true)) k) same ∙ set_there labels m (Inner true) less)
       by n (inr differ) = inl (set_elsewhere labels m n (Inner true) differ)
 
   pub own_node : (labels : List Meaning) (n : ℕ) → n < length p.nodes → (label_at p.nodes n).number < length labels →

@@ -65,7 +65,7 @@ module _ (p : Context) (y : Targets) where
   branch_cost test = both_cost test.left test.right + (2 * shifts_of test.width + 3)
 
   abbrev pub switch_cost : Operand → List Arm → ℕ
-  switch_cost value arms = operand_cost value + 20 * ranges_in arms
+  switch_cost value arms = operand_cost value + 27 * ranges_in arms
 
   abbrev pub host_cost : HostCall → ℕ
   host_cost (host.PutByte value) = operand_cost value + 3

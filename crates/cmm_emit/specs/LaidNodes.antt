@@ -1,5 +1,5 @@
 -- Nodes that have their place in code: behind the label of each stands its code.
-use Rattle.std.specs.Prelude.{◌≡◌, ◌⊎◌, ℕ, suc, ◌+◌, ◌*◌, ◌<◌, ◌==◌, ◌||◌, not, Bool, true, false, List, [], ◌∷◌, ◌++◌, length, slice_get, slice_set, Option, Some, None}
+use Rattle.std.specs.Prelude.{◌≡◌, ◌⊎◌, ℕ, suc, ◌+◌, ◌*◌, ◌<◌, ◌≤◌, ◌==◌, ◌||◌, not, Bool, true, false, List, [], ◌∷◌, ◌++◌, length, slice_get, slice_set, Option, Some, None}
 use Rattle.cmm_bitset.specs.Sets.{has}
 use Rattle.cmm_program.specs.State.{Setting}
 use Rattle.cmm_graph.specs.declared.number.NodeId.{NodeId}
@@ -15,6 +15,7 @@ use Rattle.rv_asm.specs.declared.part.Meaning.{Meaning}
 use Rattle.rv_asm.specs.declared.part.Meaning.TheVariants.{Inner}
 use Rattle.rv_asm.specs.declared.part.Part.{Part}
 use Rattle.rv_asm.specs.declared.part.Part.TheVariants.{Place}
+use Rattle.cmm_select.specs.Switches.{MakesInner}
 use Rattle.cmm_image_machine.specs.Machine.{Launch}
 use Rattle.cmm_located.specs.Compiled.{Compiled}
 use Rattle.cmm_emit_laws.specs.Finished.{Finished, code_of}
@@ -22,7 +23,7 @@ use Rattle.cmm_emit.specs.declared.context.Context.{Context}
 use Rattle.cmm_emit.specs.declared.context.Targets.{Targets}
 use Rattle.cmm_emit.specs.Costs.{cost_of}
 use Rattle.cmm_emit.specs.Naming.{label_at}
-use Rattle.cmm_emit.specs.Standing.{CanWait, HasCode, IsContextOf, IsReady, SiteStands}
+use Rattle.cmm_emit.specs.Standing.{CanWait, HasCode, IsContextOf, IsReady, SiteStands, inner_count, labels_with}
 
 -- nodes have labels of their own, which are placed for just the nodes of a set
 pub record AreLaid (labels : List Meaning) (p : Context) (placed : List Bool) : Type 0 where
@@ -39,10 +40,10 @@ pub record HaveSites (p : Context) : Type 0 where
 abbrev pub IsOwn : Context → ℕ → Type 0
 IsOwn p n = ((k : ℕ) × (k < length p.nodes) × ((label_at p.nodes k).number ≡ n)) ⊎ ((k : ℕ) × (k < length p.sites) × ((label_at p.sites k).number ≡ n))
 
--- labels of nodes and of sites may have come to places, and all others stay as they are
+-- labels of nodes and of sites may have come to places, and all others that were there stay as they are; those made since have places
 pub record PlacesOwn (p : Context) (old new : List Meaning) : Type 0 where
-  pub count : length new ≡ length old
-  pub each : (n : ℕ) → (slice_get new n ≡ slice_get old n) ⊎ (IsOwn p n × (slice_get new n ≡ Some (Inner true)))
+  pub count : length old ≤ length new
+  pub each : (n : ℕ) → (slice_get new n ≡ slice_get old n) ⊎ ((IsOwn p n ⊎ (length old ≤ n)) × (slice_get new n ≡ Some (Inner true)))
 
 -- none of them has a place yet
 abbrev pub AreUnplaced : List Meaning → Context → Type 0
@@ -57,6 +58,11 @@ WaitApart g =
 -- the labels once a node has its place, if one has
 abbrev pub labels_behind : Context → Option NodeId → List Meaning → List Meaning
 labels_behind p there labels = elim there [ Some n ↦ slice_set labels (label_at p.nodes n.number).number (Inner true) | None ↦ labels ]
+
+-- So they are behind the code of a node, which may have made labels of its own.
+abbrev pub AreLabelsBehind : Context → NodeKind → Option NodeId → List Meaning → List Meaning → Type 0
+AreLabelsBehind p kind there old new =
+    (mid : List Meaning) × MakesInner (inner_count kind) (labels_with p kind old) mid × (new ≡ labels_behind p there mid)
 
 -- code ends where a node has its place, which it had not before
 pub record EndsAt (p : Context) (n : NodeId) (old new : List Bool) (parts : List Part) : Type 0 where

@@ -62,14 +62,15 @@ pub record HasOutline (p : Program) (graphs : List Graph) (o : Outline) : Type 0
 
 -- ---- while n procedures are laid
 
--- what labels mean then: those of the other procedures, of the limit and of the call of the client have no place yet
+-- what labels mean then: those of the other procedures, of the limit and of the call of the client have no place yet, and behind the labels of all
+-- procedures stand those that code made for itself
 pub record HaveLabels (p : Program) (procs : List Proc) (graphs : List Graph) (n : ℕ) (labels : List Meaning) : Type 0 where
-  pub count : length labels ≡ first_label (first_own p) procs graphs (length procs)
+  pub count : first_label (first_own p) procs graphs (length procs) ≤ length labels
   pub symbols : (k : ℕ) → k < symbol_count p → slice_get labels k ≡ Some (symbol_meaning p k)
   pub limit : slice_get labels (symbol_count p) ≡ Some (Inner false)
   pub client : slice_get labels (symbol_count p + 1) ≡ Some (Inner false)
   pub inner : (k : ℕ) → symbol_count p ≤ k → k < length labels → IsTrue (is_inner (slice_index_or labels k (Inner false)))
-  pub fresh : (k : ℕ) → first_label (first_own p) procs graphs n ≤ k → k < length labels → slice_get labels k ≡ Some (Inner false)
+  pub fresh : (k : ℕ) → first_label (first_own p) procs graphs n ≤ k → k < first_label (first_own p) procs graphs (length procs) → slice_get labels k ≡ Some (Inner false)
 
 abbrev pub HaveLabelsIn : Program → List Graph → Outline → ℕ → List Meaning → Type 0
 HaveLabelsIn p graphs o n labels = HaveLabels p (own o p.procs) (own o graphs) n labels
@@ -95,7 +96,7 @@ HaveCodesIn p graphs o n parts = HaveCodes (own o p.procs) (own o graphs) o n pa
 
 -- behind all procedures, the run ends at the limit of the stack, and the client is called; and there is no more of it than tokens allow
 pub record IsWhole (p : Program) (procs : List Proc) (graphs : List Graph) (o : Outline) (labels : List Meaning) (parts : List Part) : Type 0 where
-  pub count : length labels ≡ first_label (first_own p) procs graphs (length procs)
+  pub count : first_label (first_own p) procs graphs (length procs) ≤ length labels
   pub symbols : (k : ℕ) → k < symbol_count p → slice_get labels k ≡ Some (symbol_meaning p k)
   pub inner : (k : ℕ) → symbol_count p ≤ k → k < length labels → IsTrue (is_inner (slice_index_or labels k (Inner false)))
   pub front : List Part

@@ -28,7 +28,7 @@ use Rattle.cmm_effects.specs.Changes.{IsPlace, Keeps}
 use Rattle.cmm_effects.specs.Pieces.{Always, BeginsQuietly}
 use Rattle.cmm_effects.specs.Ways.{Goes, Turns}
 use Rattle.cmm_select.specs.declared.destination.Destination.{Destination as CodeDestination}
-use Rattle.cmm_select.specs.Switches.{label_of}
+use Rattle.cmm_select.specs.Switches.{label_of, ranges_in}
 use Rattle.cmm_calls.specs.Calls.{HasExits}
 use Rattle.rv_asm.specs.Appending.{IsBehind}
 use Rattle.cmm_calls.specs.Frames.{CanBeMade}
@@ -70,6 +70,11 @@ CanWait p kind labels = IfSome (site_of kind) (λ site. slice_get labels (site_l
 -- the labels once the code of a node is there: its site has its place
 abbrev pub labels_with : Context → NodeKind → List Meaning → List Meaning
 labels_with p kind labels = elim (site_of kind) [ Some site ↦ slice_set labels (site_label p site).number (Inner true) | None ↦ labels ]
+
+-- how many labels it makes at most
+abbrev pub inner_count : NodeKind → ℕ
+inner_count (Switch value arms otherwise) = ranges_in arms
+inner_count _ = 0
 
 -- behind the instruction by which a node waits stands its site, with a word for each alternate exit and one more
 abbrev pub SiteStands : Context → NodeKind → List Part → Type 0

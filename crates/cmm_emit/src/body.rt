@@ -9,7 +9,8 @@ ghost use Rattle.cmm_graph.specs.declared.node.HostCall.TheVariants as host;
 ghost use Rattle.cmm_effects.specs.Pieces.{Adds};
 ghost use Rattle.cmm_emit.specs.Naming.{has_arm, has_both, has_call, has_kind, has_node, has_operand, has_target};
 ghost use Rattle.cmm_emit.specs.Costs.{branch_cost, cost_of, host_cost, jump_of, store_cost, switch_cost};
-ghost use Rattle.cmm_emit.specs.Standing.{CanWait, CodesNode, CodesOwn, IsReady, SiteStands, labels_with};
+ghost use Rattle.cmm_emit.specs.Standing.{CanWait, CodesNode, CodesOwn, IsReady, SiteStands, inner_count, labels_with};
+ghost use Rattle.cmm_select.specs.Switches.{MakesInner, ranges_in};
 
 use crate::assign::assign_body;
 use crate::calling::call_body;
@@ -57,7 +58,7 @@ fn switch_body(
     requires value { IsTrue (has_operand context.now targets.now value) }
     requires arms { IsTrue (list_all (has_arm context.now targets.now) arms.now) }
     ensures code { (otherwise : NodeId) → OnOk result (Adds (switch_cost context.now targets.now value arms.now) asm.old.parts asm.new.parts (CodesNode context.now targets.now (kind.Switch value arms.now otherwise))) }
-    ensures labels { asm.new.labels ≡ asm.old.labels }
+    ensures labels { OnOk result (MakesInner (ranges_in arms.now) asm.old.labels asm.new.labels) }
 {
     let operand = code_operand(context, targets, value);
     switch(asm, &operand, arms, context.nodes.as_slice())?;
@@ -165,7 +166,7 @@ pub(crate) fn body(
     requires kind { IsTrue (has_kind context.now targets.now kind.now) }
     requires waits { CanWait context.now kind.now asm.old.labels }
     ensures code { OnOk result (Adds (cost_of context.now targets.now kind.now - jump_of kind.now) asm.old.parts asm.new.parts (CodesOwn context.now targets.now kind.now)) }
-    ensures labels { OnOk result (asm.new.labels ≡ labels_with context.now kind.now asm.old.labels) }
+    ensures labels { OnOk result (MakesInner (inner_count kind.now) (labels_with context.now kind.now asm.old.labels) asm.new.labels) }
     ensures stands { OnOk result (SiteStands context.now kind.now asm.new.parts) }
 {
     match kind {

@@ -14,9 +14,9 @@ ghost use Rattle.cmm_graph.specs.declared.node.Node.{Node as GraphNode};
 ghost use Rattle.cmm_effects.specs.Pieces.{Adds, Always};
 ghost use Rattle.cmm_effects.specs.Ways.{Goes, Turns};
 ghost use Rattle.cmm_emit.specs.Costs.{cost_of, jump_cost, total_cost};
-ghost use Rattle.cmm_emit.specs.LaidNodes.{PlacesOwn, AreLaid, AreUnplaced, CodesAlone, EndsAt, HaveCode, HaveSites, IsPending, SitesStand, SitesWait, StandsHere, WaitApart, labels_behind, size_with};
+ghost use Rattle.cmm_emit.specs.LaidNodes.{PlacesOwn, AreLabelsBehind, AreLaid, AreUnplaced, CodesAlone, EndsAt, HaveCode, HaveSites, IsPending, SitesStand, SitesWait, StandsHere, WaitApart, labels_behind, size_with};
 ghost use Rattle.cmm_emit.specs.Naming.{has_kind, has_node, label_at};
-ghost use Rattle.cmm_emit.specs.Standing.{CanWait, IsReady, LeadsFrom, SiteStands, falls_to, is_bare, labels_with};
+ghost use Rattle.cmm_emit.specs.Standing.{CanWait, IsReady, LeadsFrom, SiteStands, falls_to, is_bare};
 
 use crate::body::body;
 use crate::context::{Context, Targets};
@@ -174,7 +174,7 @@ fn lay_node(
     ensures code { OnOk result (Adds (cost_of context.now targets.now kind.now) asm.old.parts asm.new.parts (CodesAlone context.now targets.now kind.now)) }
     ensures ends { IfOk result (λ there. IfSome there (λ n. EndsAt context.now n placed.old placed.new asm.new.parts)) }
     ensures stays { IfOk result (λ there. IfNone there (placed.new ≡ placed.old)) }
-    ensures labels { IfOk result (λ there. asm.new.labels ≡ labels_behind context.now there (labels_with context.now kind.now asm.old.labels)) }
+    ensures labels { IfOk result (λ there. AreLabelsBehind context.now kind.now there asm.old.labels asm.new.labels) }
     ensures stands { OnOk result (SiteStands context.now kind.now asm.new.parts) }
 {
     body(asm, alloc, context, targets, kind)?;

@@ -27,8 +27,9 @@ mod Putting
 mod Loading
 mod Turning
 mod Asking
+mod Spans
 mod Ranging
-mod Waiting
+mod Halving
 mod Tabled
 mod Short
 mod Gathering

@@ -1,12 +1,9 @@
--- A value is in a range, in one of some ranges, or an arm is for it.
-use Rattle.std.proofs.Math.Bool.{or-false, or_assoc}
+-- Control goes by the span that has a value.
 use Rattle.std.proofs.Common.{◌≡◌, ℕ, ◌+◌, ◌-◌, ◌*◌, ◌<◌, ◌≤◌, ◌^◌, ◌⊎◌, inl, inr, suc, refl, sym, ◌∙◌, ap, subst, arith, List, [], ◌∷◌, ◌++◌, length, take, get_or, true, false, pos, ◌-ℤ◌}
-use Rattle.std.specs.Prelude.{◌||◌, ◌&&◌, ◌==◌, Bool, not, nat_le, nat_lt}
+use Rattle.std.specs.Prelude.{◌&&◌, ◌==◌, Bool, not, nat_le, nat_lt}
 use Rattle.std.proofs.Math.Seq.{take-suc}
 use Rattle.std.proofs.lemmas.Bool.Decides.{nat_tests}
 use Rattle.cmm_graph.specs.declared.node.Arm.{Arm}
-use Rattle.cmm_program.specs.Bodies.{is_in_ranges}
-use Rattle.cmm_program.specs.declared.statement.Range.{Range}
 use Rattle.cmm_words.specs.declared.operators.Cmp.{Cmp}
 use Rattle.cmm_words.specs.declared.operators.Cmp.TheVariants.{Eq, Geu}
 use Rattle.rv_asm.specs.Appending.{Then}
@@ -24,7 +21,10 @@ use Rattle.cmm_select.proofs.Keeping.{brings_keeps}
 use Rattle.cmm_select.proofs.Places.{One, same_set, set_as}
 use Rattle.cmm_select.proofs.SmallNumbers.{negative_small}
 use Rattle.cmm_select.specs.Operands.{Brings, BringsOperand, most_for, operand_at}
-use Rattle.cmm_select.specs.Switches.{EndsLow, GoesInArms, GoesInRanges, KeepsFirst, Switches, arm_address, label_of, ranges_in}
+use Rattle.cmm_select.proofs.Spans.{any_span, span_append, span_split}
+use Rattle.cmm_select.specs.Switches.{KeepsFirst, Switches, arm_address}
+use Rattle.cmm_select.specs.inside.Searches.{GoesInSpan, GoesInSpans, is_in, span_address}
+use Rattle.cmm_select.specs.declared.span.Span.{Span}
 use Rattle.cmm_select.specs.declared.operand.Operand.{Operand}
 
 pub keeps_first_then : (s t u : State) → KeepsFirst s t → KeepsFirst t u → KeepsFirst s u
@@ -43,30 +43,33 @@ outside f t v h order fits =
     let e : difference v f ≡ v + 2 ^ 64 - f = omega arith in
     ap (λ (d : ℕ). not (nat_lt (t - f) d)) e ∙ grind (arith, nat_tests)
 
-in_range : (f t v : ℕ) → f ≤ t → t < 2 ^ 64 → v < 2 ^ 64 → not (nat_lt (t - f) (difference v f)) ≡ ((nat_le f v && nat_le v t) || false)
+in_range : (f t v : ℕ) → f ≤ t → t < 2 ^ 64 → v < 2 ^ 64 → not (nat_lt (t - f) (difference v f)) ≡ (nat_le f v && nat_le v t)
 in_range f t v order fits small =
-    elim (either f v) [ inl low ↦ inside f t v low order small | inr high ↦ outside f t v high order fits ] ∙ sym (or-false (nat_le f v && nat_le v t))
+    elim (either f v) [ inl low ↦ inside f t v low order small | inr high ↦ outside f t v high order fits ]
   where
     either : (f v : ℕ) → (f ≤ v) ⊎ (v < f)
     either f v = grind arith
 
 -- one number
-pub alone : (f t v : ℕ) → f ≡ t → (v == f) ≡ ((nat_le f v && nat_le v t) || false)
-alone f t v same = grind (arith, nat_tests) ∙ sym (or-false (nat_le f v && nat_le v t))
+pub alone : (f t v : ℕ) → f ≡ t → (v == f) ≡ (nat_le f v && nat_le v t)
+alone f t v same = grind (arith, nat_tests, same)
 
 -- a range that falls has no value
-falls : (f t v : ℕ) → t < f → ((nat_le f v && nat_le v t) || false) ≡ false
-falls f t v h = or-false (nat_le f v && nat_le v t) ∙ grind (arith, nat_tests)
+falls : (f t v : ℕ) → t < f → (nat_le f v && nat_le v t) ≡ false
+falls f t v h = grind (arith, nat_tests, h)
 
-module _ (x : Code) (from on : ℕ) (r : Range) (l : Label) where
-  pub goes_past : r.to < r.from → from ≡ on → GoesInRanges 20 (r ∷ []) l x from on
+module _ (x : Code) (from on : ℕ) (r : Span) where
+  abbrev l : Label
+  l = r.label
+
+  pub goes_past : r.to < r.from → from ≡ on → GoesInSpan 20 r x from on
   goes_past h is =
       goes_weaker (goes_none {most = 20} {Q = KeepsFirst} is (λ s. record { first = refl; keeps = keeps_same s })) (omega arith) (omega arith)
-      (λ s. way (is_in_ranges (s.registers 5) (r ∷ [])) (x.at l.number) on)
+      (λ s. way (is_in (s.registers 5) r) (x.at l.number) on)
       (λ s sound. sym (ap (λ (b : Bool). way b (x.at l.number) on) (falls r.from r.to (s.registers 5) h)))
       (λ s t keeps. keeps)
 
-  branched : (c : Cmp) (a b mid : ℕ) → Does x (Branch c a b l) mid on →
+  pub branched : (c : Cmp) (a b mid : ℕ) → Does x (Branch c a b l) mid on →
       Goes 1 3 Always (λ s. way (taken c (s.registers a) (s.registers b)) (x.at l.number) on) KeepsFirst x mid
   branched c a b mid does = record {
     go = λ s sound at p.
@@ -82,7 +85,7 @@ module _ (x : Code) (from on : ℕ) (r : Range) (l : Label) where
 
   -- the value is the one number
   pub goes_at : (m : ℕ) → m ≤ 8 → r.from ≡ r.to → Then (Leads m Always (λ s t. Sets 7 r.from s t)) (λ x from on. Does x (Branch Eq 5 7 l) from on) x from on →
-      GoesInRanges 20 (r ∷ []) l x from on
+      GoesInSpan 20 r x from on
   goes_at m few same does =
       let turns = leads_turns does.1 (branched Eq 5 7 does.0 does.2) (λ s t sound also p q. tt) (λ s. way (s.registers 5 == r.from) (x.at l.number) on)
       (λ s t p sets.
@@ -90,7 +93,7 @@ module _ (x : Code) (from on : ℕ) (r : Range) (l : Label) where
       ∙ ap (λ (b : ℕ). way (s.registers 5 == b) (x.at l.number) on) sets.given)
       in
       goes_weaker turns.goes (omega arith) (omega (arith, few))
-      (λ s. way (is_in_ranges (s.registers 5) (r ∷ [])) (x.at l.number) on)
+      (λ s. way (is_in (s.registers 5) r) (x.at l.number) on)
       (λ s sound. ap (λ (b : Bool). way b (x.at l.number) on) (alone r.from r.to (s.registers 5) same))
       (λ s u both. keeps_first_then s both.0 u (record { first = both.1.others 5 refl; keeps = set_keeps 7 r.from s both.0 refl both.1 }) both.2)
 
@@ -111,7 +114,7 @@ module _ (x : Code) (from on : ℕ) (r : Range) (l : Label) where
     pub goes_in_range : r.from ≤ r.to → r.to < 2 ^ 64 → n ≤ 8 →
         Then (Leads 9 Always (λ s t. Sets 7 (difference (s.registers 5) r.from) s t))
         (Then (Leads n Always (λ s t. Sets 6 (r.to - r.from) s t)) (λ x from on. Does x (Branch Geu 6 7 l) from on)) x from on →
-        GoesInRanges 20 (r ∷ []) l x from on
+        GoesInSpan 20 r x from on
     goes_in_range order fits less does =
         let turns = leads_turns (leads_then does.1 (runs_of does.2.1) (λ s t sound also p q. tt)) (branched Geu 6 7 does.2.0 does.2.2) (λ s t sound also p q. tt)
         (λ s. way (not (nat_lt (r.to - r.from) (difference (s.registers 5) r.from))) (x.at l.number) on)
@@ -120,7 +123,7 @@ module _ (x : Code) (from on : ℕ) (r : Range) (l : Label) where
         ∙ ap (λ (b : ℕ). way (not (nat_lt (r.to - r.from) b)) (x.at l.number) on) (measure s w ms))
         in
         goes_weaker turns.goes (omega arith) (omega (arith, less))
-        (λ s. way (is_in_ranges (s.registers 5) (r ∷ [])) (x.at l.number) on)
+        (λ s. way (is_in (s.registers 5) r) (x.at l.number) on)
         (λ s sound. ap (λ (b : Bool). way b (x.at l.number) on) (in_range r.from r.to (s.registers 5) order fits (sound.registers 5)))
         (λ s u both. keeps_first_then s both.0 u (keeps_measures s both.0 both.1) both.2)
 
@@ -146,111 +149,47 @@ module _ (x : Code) (from to f : ℕ) where
 
 -- ---- one after another
 
-way_or : (a b : Bool) (n m : ℕ) → way a n (way b n m) ≡ way (a || b) n m
-way_or true b n m = refl
-way_or false b n m = refl
-
-pub in_more : (v : ℕ) (rs : List Range) (r : Range) → is_in_ranges v (rs ++ r ∷ []) ≡ (is_in_ranges v rs || is_in_ranges v (r ∷ []))
-in_more v [] r = refl
-in_more v (q ∷ rs) r =
-    ap (λ (b : Bool). (nat_le q.from v && nat_le v q.to) || b) (in_more v rs r)
-    ∙ sym (or_assoc (nat_le q.from v && nat_le v q.to) (is_in_ranges v rs) (is_in_ranges v (r ∷ [])))
-
-pub way_split : (a b : Bool) (n first rest on : ℕ) → first ≡ way b rest on → way a n first ≡ way (a || b) (way a n rest) on
-way_split true b n first rest on is = refl
-way_split false b n first rest on is = is
-
 -- the elements up to one, and that
 pub up_to : {A : Type 0} (xs : List A) (i : ℕ) (d : A) → i < length xs → take (i + 1) xs ≡ take i xs ++ get_or xs i d ∷ []
 up_to xs i d within = let e : i + 1 ≡ suc i = omega arith in rw (e, take-suc xs i d within) refl
 
-pub ranges_more : (arms : List Arm) (arm : Arm) → ranges_in (arms ++ arm ∷ []) ≡ ranges_in arms + length arm.ranges
-ranges_more [] arm = omega arith
-ranges_more (a ∷ arms) arm = let e = ranges_more arms arm in omega (arith, e)
-
-module _ (at : ℕ → ℕ) (labels : List Label) where
-  -- some arm is for a value
-  abbrev pub any_arm : List Arm → ℕ → Bool
-  any_arm [] v = false
-  any_arm (arm ∷ arms) v = is_in_ranges v arm.ranges || any_arm arms v
-
-  -- where no arm is for the value, control goes on
-  pub address_split : (arms : List Arm) (v on : ℕ) → arm_address at labels arms v on ≡ way (any_arm arms v) (arm_address at labels arms v 0) on
-  address_split [] v on = refl
-  address_split (arm ∷ arms) v on =
-      way_split (is_in_ranges v arm.ranges) (any_arm arms v) (at (label_of labels arm.to).number) (arm_address at labels arms v on) (arm_address at labels arms v 0) on
-      (address_split arms v on)
-
-  pub address_more : (arms : List Arm) (arm : Arm) (v on : ℕ) → arm_address at labels (arms ++ arm ∷ []) v on
-      ≡ arm_address at labels arms v (way (is_in_ranges v arm.ranges) (at (label_of labels arm.to).number) on)
-  address_more [] arm v on = refl
-  address_more (a ∷ arms) arm v on = ap (way (is_in_ranges v a.ranges) (at (label_of labels a.to).number)) (address_more arms arm v on)
-
 module _ (x : Code) where
-  pub no_ranges : (from on : ℕ) (l : Label) → from ≡ on → GoesInRanges 0 [] l x from on
-  no_ranges from on l is = goes_none is (λ s. record { first = refl; keeps = keeps_same s })
+  pub no_spans : (from on : ℕ) → from ≡ on → GoesInSpans 0 [] x from on
+  no_spans from on is = λ low. goes_none is (λ s. record { first = refl; keeps = keeps_same s })
 
-  pub more_ranges : (from on most : ℕ) (rs : List Range) (r : Range) (l : Label) → Then (GoesInRanges most rs l) (GoesInRanges 20 (r ∷ []) l) x from on →
-      GoesInRanges (most + 20) (rs ++ r ∷ []) l x from on
-  more_ranges from on most rs r l does =
+  pub more_spans : (from on most : ℕ) (ss : List Span) (r : Span) → Then (GoesInSpans most ss) (GoesInSpan 20 r) x from on → GoesInSpans (most + 20) (ss ++ r ∷ []) x from on
+  more_spans from on most ss r does = λ low.
       goes_weaker
-      (goes_choice does.0 (λ s. is_in_ranges (s.registers 5) rs) (λ s. x.at l.number) (λ s. way (is_in_ranges (s.registers 5) (r ∷ [])) (x.at l.number) on) keeps_first_then
-      (λ s t keeps. ap (λ (v : ℕ). way (is_in_ranges v (r ∷ [])) (x.at l.number) on) keeps.first) does.1 does.2)
+      (goes_choice does.0 (λ s. any_span ss (s.registers 5)) (λ s. span_address x.at ss (s.registers 5) 0) (λ s. way (is_in (s.registers 5) r) (x.at r.label.number) on) keeps_first_then
+      (λ s t keeps. ap (λ (v : ℕ). way (is_in v r) (x.at r.label.number) on) keeps.first)
+      (goes_weaker {k = 0} {b = most} (does.1 low) (omega arith) (omega arith) (λ s. way (any_span ss (s.registers 5)) (span_address x.at ss (s.registers 5) 0) does.0)
+      (λ s sound. span_split x.at ss (s.registers 5) does.0) (λ s t keeps. keeps))
+      does.2)
       (omega arith) (omega arith)
-      (λ s. way (is_in_ranges (s.registers 5) (rs ++ r ∷ [])) (x.at l.number) on)
+      (λ s. span_address x.at (ss ++ r ∷ []) (s.registers 5) on)
       (λ s sound.
-      way_or (is_in_ranges (s.registers 5) rs) (is_in_ranges (s.registers 5) (r ∷ [])) (x.at l.number) on
-      ∙ sym (ap (λ (b : Bool). way b (x.at l.number) on) (in_more (s.registers 5) rs r)))
+      sym (span_split x.at ss (s.registers 5) (way (is_in (s.registers 5) r) (x.at r.label.number) on))
+      ∙ sym (span_append x.at ss (r ∷ []) (s.registers 5) on))
       (λ s t keeps. keeps)
 
-  pub next_range : (from on i : ℕ) (rs : List Range) (d : Range) (l : Label) → i < length rs →
-      Then (GoesInRanges (20 * i) (take i rs) l) (GoesInRanges 20 (get_or rs i d ∷ []) l) x from on → GoesInRanges (20 * (i + 1)) (take (i + 1) rs) l x from on
-  next_range from on i rs d l within does =
+  pub next_span : (from on i : ℕ) (ss : List Span) (d : Span) → i < length ss →
+      Then (GoesInSpans (20 * i) (take i ss)) (GoesInSpan 20 (get_or ss i d)) x from on → GoesInSpans (20 * (i + 1)) (take (i + 1) ss) x from on
+  next_span from on i ss d within does =
       let e : 20 * (i + 1) ≡ 20 * i + 20 = omega arith in
-      subst (λ (qs : List Range). GoesInRanges (20 * (i + 1)) qs l x from on) (sym (up_to rs i d within))
-      (subst (λ (n : ℕ). GoesInRanges n (take i rs ++ get_or rs i d ∷ []) l x from on) (sym e) (more_ranges from on (20 * i) (take i rs) (get_or rs i d) l does))
+      subst (λ (qs : List Span). GoesInSpans (20 * (i + 1)) qs x from on) (sym (up_to ss i d within))
+      (subst (λ (n : ℕ). GoesInSpans n (take i ss ++ get_or ss i d ∷ []) x from on) (sym e) (more_spans from on (20 * i) (take i ss) (get_or ss i d) does))
 
-  -- ---- arms
-
-  module _ (labels : List Label) where
-    pub no_arms : (from on : ℕ) → from ≡ on → GoesInArms 0 labels [] x from on
-    no_arms from on is = λ low. goes_none is (λ s. record { first = refl; keeps = keeps_same s })
-
-    -- arms are gone through, and then some other way, which the value in register 5 tells
-    pub arms_then : (from mid on most n : ℕ) (arms : List Arm) (other : ℕ → ℕ) → EndsLow x.map → GoesInArms most labels arms x from mid →
-        Goes 0 n Always (λ s. other (s.registers 5)) KeepsFirst x mid → Goes 0 (most + n) Always (λ s. arm_address x.at labels arms (s.registers 5) (other (s.registers 5))) KeepsFirst x from
-    arms_then from mid on most n arms other low first second =
-        goes_weaker
-        (goes_choice mid (λ s. any_arm x.at labels arms (s.registers 5)) (λ s. arm_address x.at labels arms (s.registers 5) 0) (λ s. other (s.registers 5)) keeps_first_then
-        (λ s t keeps. ap other keeps.first)
-        (goes_weaker {k = 0} {b = most} (first low) (omega arith) (omega arith) (λ s. way (any_arm x.at labels arms (s.registers 5)) (arm_address x.at labels arms (s.registers 5) 0) mid)
-        (λ s sound. address_split x.at labels arms (s.registers 5) mid) (λ s t keeps. keeps))
-        second)
-        (omega arith) (omega arith)
-        (λ s. arm_address x.at labels arms (s.registers 5) (other (s.registers 5)))
-        (λ s sound. sym (address_split x.at labels arms (s.registers 5) (other (s.registers 5))))
-        (λ s t keeps. keeps)
-
-    pub more_arms : (from on most n : ℕ) (arms : List Arm) (arm : Arm) (l : Label) → label_of labels arm.to ≡ l →
-        Then (GoesInArms most labels arms) (GoesInRanges n arm.ranges l) x from on → GoesInArms (most + n) labels (arms ++ arm ∷ []) x from on
-    more_arms from on most n arms arm l is does = λ low.
-        goes_weaker (arms_then from does.0 on most n arms (λ v. way (is_in_ranges v arm.ranges) (x.at l.number) on) low does.1 does.2) (omega arith) (omega arith)
-        (λ s. arm_address x.at labels (arms ++ arm ∷ []) (s.registers 5) on)
-        (λ s sound.
-        ap (λ (k : Label). arm_address x.at labels arms (s.registers 5) (way (is_in_ranges (s.registers 5) arm.ranges) (x.at k.number) on)) (sym is)
-        ∙ sym (address_more x.at labels arms arm (s.registers 5) on))
-        (λ s t keeps. keeps)
-
-    -- the value is brought, and then the arms are gone through
-    pub switches : (arms : List Arm) (a : Operand) (from on : ℕ) → Then (BringsOperand a 5) (GoesInArms (20 * ranges_in arms) labels arms) x from on →
-        Switches (most_for a + 20 * ranges_in arms) a labels arms x from on
-    switches arms a from on does = record {
-      quiet = does.1.quiet;
-      goes = λ low.
-          (turns_weaker
-          (leads_turns {Q = λ s t. Brings 5 (operand_at x.at a s) s t} does.1 (does.2 low) (λ s t sound also can brings. tt)
-          (λ s. arm_address x.at labels arms (operand_at x.at a s) on)
-          (λ s t can brings. ap (λ (v : ℕ). arm_address x.at labels arms v on) brings.given))
-          (omega arith) (λ s sound can. can)
-          (λ s u can both. keeps_then s both.0 u (brings_keeps 5 (operand_at x.at a s) s both.0 refl both.1) both.2.keeps)).goes;
-    }
+  -- the value is brought, and then looked for
+  pub switches : (labels : List Label) (arms : List Arm) (spans : List Span) (a : Operand) (from on most : ℕ) →
+      ((v : ℕ) → span_address x.at spans v on ≡ arm_address x.at labels arms v on) →
+      Then (BringsOperand a 5) (GoesInSpans most spans) x from on → Switches (most_for a + most) a labels arms x from on
+  switches labels arms spans a from on most same does = record {
+    quiet = does.1.quiet;
+    goes = λ low.
+        (turns_weaker
+        (leads_turns {Q = λ s t. Brings 5 (operand_at x.at a s) s t} does.1 (does.2 low) (λ s t sound also can brings. tt)
+        (λ s. arm_address x.at labels arms (operand_at x.at a s) on)
+        (λ s t can brings. same (t.registers 5) ∙ ap (λ (v : ℕ). arm_address x.at labels arms v on) brings.given))
+        (omega arith) (λ s sound can. can)
+        (λ s u can both. keeps_then s both.0 u (brings_keeps 5 (operand_at x.at a s) s both.0 refl both.1) both.2.keeps)).goes;
+  }

@@ -232,7 +232,7 @@ module _ (x : Code) (first n end : ℕ) (ls : List Label) (count : length ls ≡
       (Then (Leads 3 Always (Masks n))
       (Then (One (Slli 7 7 (pos 2)))
       (Then (One (Auipc 6 (pos 0))) (Then (One (Add 7 7 6)) (Then (One (Jalr 0 7 (pos (12 + 4 * n)))) (λ y b on. Does y (Table ls) b on)))))) x from on →
-      GoesInRun (20 * n) ls first x from on
+      GoesInRun 20 ls first x from on
   goes_by_table from on does low = record { go = λ s sound at p. by s sound at (where_is (s.registers 5)) }
     where
       where_is : (v : ℕ) → ((v < first) ⊎ (first + length ls ≤ v)) ⊎ ((i : ℕ) × (v ≡ first + i) × (i < length ls))
@@ -248,7 +248,7 @@ module _ (x : Code) (first n end : ℕ) (ls : List Label) (count : length ls ≡
 
       -- by how many numbers the value is below the end
       comes : (s : State) → IsSound s → s.pc ≡ from → (k there : ℕ) → k ≤ n → offset n (difference (s.registers 5) end) ≡ (2 ^ 64 - 4 * k) % 2 ^ 64 → LeadsFrom x n few ls low on (n - k) there →
-          Reaches x.map 0 (20 * n) s (λ u. (u.pc ≡ there) × KeepsFirst s u)
+          Reaches x.map 0 20 s (λ u. (u.pc ≡ there) × KeepsFirst s u)
       comes s sound at k there within is leads =
           let shifted = leads_set x (Slli 7 7 (pos 2)) does.2.0 does.2.2.0 7 (λ g. shifted_left (g 7) (modulo 6 (pos 2))) (omega arith) (λ g pc. refl) does.2.2.1 in
           let all = leads_then (leads_then does.1 (runs_of does.2.1) (λ s t sound also p q. tt)) (runs_of shifted) (λ s t sound also p q. tt) in
@@ -268,10 +268,10 @@ module _ (x : Code) (first n end : ℕ) (ls : List Label) (count : length ls ≡
           (omega arith) (omega (arith, some)) (λ z last. last)
 
       by : (s : State) → IsSound s → s.pc ≡ from → ((s.registers 5 < first) ⊎ (first + length ls ≤ s.registers 5)) ⊎ ((i : ℕ) × (s.registers 5 ≡ first + i) × (i < length ls)) →
-          Reaches x.map 0 (20 * n) s (λ u. (u.pc ≡ run_address x.at ls first (s.registers 5) on) × KeepsFirst s u)
+          Reaches x.map 0 20 s (λ u. (u.pc ≡ run_address x.at ls first (s.registers 5) on) × KeepsFirst s u)
       by s sound at (inl out) =
           let less : difference (s.registers 5) end < 2 ^ 64 - n = outside out in
-          subst (λ (m : ℕ). Reaches x.map 0 (20 * n) s (λ u. (u.pc ≡ m) × KeepsFirst s u)) (sym (run_outside x.at on ls first (s.registers 5) out))
+          subst (λ (m : ℕ). Reaches x.map 0 20 s (λ u. (u.pc ≡ m) × KeepsFirst s u)) (sym (run_outside x.at on ls first (s.registers 5) out))
           (comes s sound at 0 on (omega arith) (offset_outside n (difference (s.registers 5) end) less)
           (λ b table z at_z. reaches_weaker (table.1 z (at_z ∙ (let e : n - 0 ≡ length ls = omega (arith, count) in ap (λ (m : ℕ). b + 4 * m) e))) (omega arith) (omega arith) (λ u goes. goes)))
         where
@@ -282,7 +282,7 @@ module _ (x : Code) (first n end : ℕ) (ls : List Label) (count : length ls ≡
           let l = get_or ls i (record { number = 0 }) in
           let there : slice_get ls i ≡ Some l = slice_get-get_or ls i (record { number = 0 }) within in
           let less : i < n = omega (arith, within, count) in
-          subst (λ (m : ℕ). Reaches x.map 0 (20 * n) s (λ u. (u.pc ≡ m) × KeepsFirst s u))
+          subst (λ (m : ℕ). Reaches x.map 0 20 s (λ u. (u.pc ≡ m) × KeepsFirst s u))
           (sym (ap (λ (v : ℕ). run_address x.at ls first v on) is ∙ run_at x.at on ls first i l there))
           (comes s sound at (n - i) (x.at l.number) (omega arith)
           (offset_inside n (difference (s.registers 5) end) (n - i) (within_run (s.registers 5) end (n - i) (omega (arith, is, is_end, less)) (omega (arith, less)) small) (omega (arith, less)) (omega arith) few)

@@ -1,5 +1,6 @@
 -- Which way switches go (C-- Language Specification 2.0, the switch statement).
-use Rattle.std.specs.Prelude.{◌≡◌, ℕ, ◌+◌, ◌≤◌, ◌^◌, List, [], ◌∷◌, length, slice_index_or}
+use Rattle.std.specs.Prelude.{◌≡◌, ℕ, ◌+◌, ◌≤◌, ◌^◌, ◌&&◌, nat_le, true, false, List, [], ◌∷◌, ◌++◌, length, replicate, slice_index_or}
+use Rattle.std.specs.List.{All}
 use Rattle.cmm_abi.specs.declared.registers.TheConstants.{FIRST_SCRATCH}
 use Rattle.cmm_graph.specs.declared.node.Arm.{Arm}
 use Rattle.cmm_graph.specs.declared.number.NodeId.{NodeId}
@@ -7,9 +8,11 @@ use Rattle.cmm_program.specs.Bodies.{is_in_ranges}
 use Rattle.cmm_program.specs.declared.statement.Range.{Range}
 use Rattle.rv_asm.specs.Parts.{Code, way}
 use Rattle.rv_asm.specs.declared.part.Label.{Label}
+use Rattle.rv_asm.specs.declared.part.Meaning.{Meaning}
+use Rattle.rv_asm.specs.declared.part.Meaning.TheVariants.{Inner}
 use Rattle.rv_table.specs.Machine.{MemoryMap, State, code_base}
 use Rattle.cmm_effects.specs.Changes.{Keeps}
-use Rattle.cmm_effects.specs.Pieces.{Always, BeginsQuietly}
+use Rattle.cmm_effects.specs.Pieces.{BeginsQuietly}
 use Rattle.cmm_effects.specs.Ways.{Goes}
 use Rattle.cmm_select.specs.Operands.{CanBringOperand, operand_at}
 use Rattle.cmm_select.specs.declared.operand.Operand.{Operand}
@@ -19,14 +22,25 @@ pub record KeepsFirst (s t : State) : Type 0 where
   pub first : t.registers FIRST_SCRATCH ≡ s.registers FIRST_SCRATCH
   pub keeps : Keeps s t
 
--- control goes to the label where the value in register 5 is in a range, and on otherwise
-abbrev pub GoesInRanges : ℕ → List Range → Label → Code → ℕ → ℕ → Type 0
-GoesInRanges most ranges l x from on = Goes 0 most Always (λ s. way (is_in_ranges (s.registers FIRST_SCRATCH) ranges) (x.at l.number) on) KeepsFirst x from
-
 -- how many ranges arms have
 abbrev pub ranges_in : List Arm → ℕ
 ranges_in [] = 0
 ranges_in (arm ∷ arms) = length arm.ranges + ranges_in arms
+
+-- how many of some ranges have a number
+abbrev pub times_in : ℕ → List Range → ℕ
+times_in value [] = 0
+times_in value (range ∷ ranges) = elim (nat_le range.from value && nat_le value range.to) [ true ↦ 1 | false ↦ 0 ] + times_in value ranges
+
+-- no range is empty, and no number is in two
+pub record AreApart (ranges : List Range) : Type 0 where
+  pub some : All (λ range. range.from ≤ range.to) ranges
+  pub once : (value : ℕ) → times_in value ranges ≤ 1
+
+-- the ranges of arms
+abbrev pub ranges_of : List Arm → List Range
+ranges_of [] = []
+ranges_of (arm ∷ arms) = arm.ranges ++ ranges_of arms
 
 -- the label of a node
 abbrev pub label_of : List Label → NodeId → Label
@@ -41,8 +55,11 @@ arm_address at labels (arm ∷ arms) value on = way (is_in_ranges value arm.rang
 abbrev pub EndsLow : MemoryMap → Type 0
 EndsLow m = code_base + length m.code ≤ 2 ^ 32
 
-abbrev pub GoesInArms : ℕ → List Label → List Arm → Code → ℕ → ℕ → Type 0
-GoesInArms most labels arms x from on = EndsLow x.map → Goes 0 most Always (λ s. arm_address x.at labels arms (s.registers FIRST_SCRATCH) on) KeepsFirst x from
+-- labels were made, each for a place in the code that it has
+pub record MakesInner (most : ℕ) (old new : List Meaning) : Type 0 where
+  pub count : ℕ
+  pub few : count ≤ most
+  pub is : new ≡ old ++ replicate count (Inner true)
 
 -- Control goes where an arm leads that is for an operand, and on where there is none; nothing is changed but scratch registers. Of all code the first
 -- instruction asks for nothing but input, and in code that ends low control goes so.

@@ -14,9 +14,6 @@ use rv_asm::{Asm, Label};
 use rv_table::Instr;
 use std::alloc::AllocError;
 
-/// The most jumps of a table.
-pub(crate) const MOST_JUMPS: usize = 64;
-
 /// Goes to the label of the value in register 5, of labels that the numbers up to one before `end` have, and on where it is none of these. A value is taken by how far
 /// it is below the end, any other as the end itself, and 4 bytes of the table are passed for each number that comes before it.
 pub(crate) fn jump_by_table(asm: &mut Asm, end: u64, to: &[Label]) -> Result<(), AllocError>
@@ -24,7 +21,7 @@ pub(crate) fn jump_by_table(asm: &mut Asm, end: u64, to: &[Label]) -> Result<(),
     requires few { length to.now ≤ 64 }
     requires low { length to.now ≤ end }
     requires inner { All (IsInner asm.old.labels) to.now }
-    ensures goes { OnOk result (Adds (20 * length to.now) asm.old.parts asm.new.parts (GoesInRun (20 * length to.now) to.now (end - length to.now))) }
+    ensures goes { OnOk result (Adds (20 * length to.now) asm.old.parts asm.new.parts (GoesInRun 20 to.now (end - length to.now))) }
     ensures labels { asm.new.labels ≡ asm.old.labels }
 {
     let count = to.len();

@@ -29,7 +29,8 @@
 //! - `assigning`: a destination gets an operand, a global register, or what an operator, a conversion or a comparison gives on operands.
 //! - `memory`: a destination gets a word of memory; an operand is stored.
 //! - `going`: control goes by a comparison of operands, to a label, on, or to its end.
-//! - `switching`: control goes by the arms of a switch. `number_run`: numbers that follow one another. `jump_table`: a table of jumps for them.
+//! - `switching`: control goes by the arms of a switch. `span`: their ranges in order. `searching`: a value is looked for among these. `jump_table`: a table of
+//!   jumps for numbers that follow one another.
 //! - `host`: a request is chosen, and bytes are put and taken.
 //!
 //! - `laws`: how short the code of two operands is, and where switches lead.
@@ -48,11 +49,12 @@ mod jump_table;
 pub mod laws;
 mod memory;
 mod number;
-mod number_run;
 mod operand;
 mod operator;
 mod place;
+mod searching;
 mod source;
+mod span;
 mod switching;
 mod unary;
 mod word;

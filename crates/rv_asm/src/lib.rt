@@ -29,4 +29,4 @@ mod walks;
 pub use asm::Asm;
 pub use filling::{CodeFix, fill};
 pub use finishing::Placed;
-pub use part::{Label, Meaning, Part};
+pub use part::{Label, Meaning, Part, TABLE_LIMIT};

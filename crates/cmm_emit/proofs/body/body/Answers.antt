@@ -1,5 +1,6 @@
 use Rattle.std.proofs.Common.{arith, refl}
 use Rattle.cmm_effects.proofs.Shared.{adds_none, adds_weaker}
+use Rattle.cmm_emit.proofs.NodeLabels.{makes_same}
 use Rattle.cmm_emit.proofs.body.body.Goals as goal
 
 pub returns-in_ok-assign_body-in-Assign-clause-code : goal.returns-in_ok-assign_body-in-Assign-clause-code
@@ -67,43 +68,43 @@ returns-in_ok-call_body-in-Call-clause-code c =
     rw c.in-Call.is (adds_weaker code (omega arith) (λ x from to does. does))
 
 pub returns-in_ok-call_body-in-Call-clause-labels : goal.returns-in_ok-call_body-in-Call-clause-labels
-returns-in_ok-call_body-in-Call-clause-labels c = rw c.in-Call.is c.in_ok-call_body-in-Call.ensures.labels
+returns-in_ok-call_body-in-Call-clause-labels c = rw c.in-Call.is (makes_same c.in_ok-call_body-in-Call.ensures.labels)
 
 pub returns-in_ok-entry_body-in-Entry-clause-labels : goal.returns-in_ok-entry_body-in-Entry-clause-labels
-returns-in_ok-entry_body-in-Entry-clause-labels c = rw c.in-Entry.is c.in_ok-entry_body-in-Entry.ensures.labels
+returns-in_ok-entry_body-in-Entry-clause-labels c = rw c.in-Entry.is (makes_same c.in_ok-entry_body-in-Entry.ensures.labels)
 
 pub returns-in_ok-copy_in_body-in-CopyIn-clause-labels : goal.returns-in_ok-copy_in_body-in-CopyIn-clause-labels
-returns-in_ok-copy_in_body-in-CopyIn-clause-labels c = rw c.in-CopyIn.is c.in_ok-copy_in_body-in-CopyIn.ensures.labels
+returns-in_ok-copy_in_body-in-CopyIn-clause-labels c = rw c.in-CopyIn.is (makes_same c.in_ok-copy_in_body-in-CopyIn.ensures.labels)
 
 pub returns-in_ok-assign_body-in-Assign-clause-labels : goal.returns-in_ok-assign_body-in-Assign-clause-labels
-returns-in_ok-assign_body-in-Assign-clause-labels c = rw c.in-Assign.is c.in_ok-assign_body-in-Assign.ensures.labels
+returns-in_ok-assign_body-in-Assign-clause-labels c = rw c.in-Assign.is (makes_same c.in_ok-assign_body-in-Assign.ensures.labels)
 
 pub returns-in_ok-store_body-in-Store-clause-labels : goal.returns-in_ok-store_body-in-Store-clause-labels
-returns-in_ok-store_body-in-Store-clause-labels c = rw c.in-Store.is c.in_ok-store_body-in-Store.ensures.labels
+returns-in_ok-store_body-in-Store-clause-labels c = rw c.in-Store.is (makes_same c.in_ok-store_body-in-Store.ensures.labels)
 
 pub returns-in_ok-branch_body-in-Branch-clause-labels : goal.returns-in_ok-branch_body-in-Branch-clause-labels
-returns-in_ok-branch_body-in-Branch-clause-labels c = rw c.in-Branch.is c.in_ok-branch_body-in-Branch.ensures.labels
+returns-in_ok-branch_body-in-Branch-clause-labels c = rw c.in-Branch.is (makes_same c.in_ok-branch_body-in-Branch.ensures.labels)
 
 pub returns-in_ok-switch_body-in-Switch-clause-labels : goal.returns-in_ok-switch_body-in-Switch-clause-labels
-returns-in_ok-switch_body-in-Switch-clause-labels c = rw c.in-Switch.is c.in_ok-switch_body-in-Switch.ensures.labels
+returns-in_ok-switch_body-in-Switch-clause-labels c = rw c.in-Switch.is (rw c.as_slice-in-Switch.ensures at c.in_ok-switch_body-in-Switch.ensures.labels)
 
 pub returns-in_ok-jump_body-in-Jump-clause-labels : goal.returns-in_ok-jump_body-in-Jump-clause-labels
-returns-in_ok-jump_body-in-Jump-clause-labels c = rw c.in-Jump.is c.in_ok-jump_body-in-Jump.ensures.labels
+returns-in_ok-jump_body-in-Jump-clause-labels c = rw c.in-Jump.is (makes_same c.in_ok-jump_body-in-Jump.ensures.labels)
 
 pub returns-in_ok-cut_body-in-Cut-clause-labels : goal.returns-in_ok-cut_body-in-Cut-clause-labels
-returns-in_ok-cut_body-in-Cut-clause-labels c = rw c.in-Cut.is c.in_ok-cut_body-in-Cut.ensures.labels
+returns-in_ok-cut_body-in-Cut-clause-labels c = rw c.in-Cut.is (makes_same c.in_ok-cut_body-in-Cut.ensures.labels)
 
 pub returns-in_ok-return_body-in-Return-clause-labels : goal.returns-in_ok-return_body-in-Return-clause-labels
-returns-in_ok-return_body-in-Return-clause-labels c = rw c.in-Return.is c.in_ok-return_body-in-Return.ensures.labels
+returns-in_ok-return_body-in-Return-clause-labels c = rw c.in-Return.is (makes_same c.in_ok-return_body-in-Return.ensures.labels)
 
 pub returns-in_ok-host_body-in-Host-clause-labels : goal.returns-in_ok-host_body-in-Host-clause-labels
-returns-in_ok-host_body-in-Host-clause-labels c = rw c.in-Host.is c.in_ok-host_body-in-Host.ensures.labels
+returns-in_ok-host_body-in-Host-clause-labels c = rw c.in-Host.is (makes_same c.in_ok-host_body-in-Host.ensures.labels)
 
 pub returns-in-Goto-clause-labels : goal.returns-in-Goto-clause-labels
-returns-in-Goto-clause-labels c = rw c.in-Goto.is refl
+returns-in-Goto-clause-labels c = rw c.in-Goto.is (makes_same refl)
 
 pub returns-in_ok-stop_body-in-Stop-clause-labels : goal.returns-in_ok-stop_body-in-Stop-clause-labels
-returns-in_ok-stop_body-in-Stop-clause-labels c = rw c.in-Stop.is c.in_ok-stop_body-in-Stop.ensures.labels
+returns-in_ok-stop_body-in-Stop-clause-labels c = rw c.in-Stop.is (makes_same c.in_ok-stop_body-in-Stop.ensures.labels)
 
 pub yield_body-requires-clause-yields : goal.yield_body-requires-clause-yields
 yield_body-requires-clause-yields c = rw c.as_slice-in-Yield.ensures (rw c.in-Yield.is at c.requires.kind)
@@ -117,4 +118,4 @@ returns-in_ok-yield_body-in-Yield-clause-code c =
     rw c.in-Yield.is (adds_weaker code (omega arith) (λ x from to does. does))
 
 pub returns-in_ok-yield_body-in-Yield-clause-labels : goal.returns-in_ok-yield_body-in-Yield-clause-labels
-returns-in_ok-yield_body-in-Yield-clause-labels c = rw c.in-Yield.is c.in_ok-yield_body-in-Yield.ensures.labels
+returns-in_ok-yield_body-in-Yield-clause-labels c = rw c.in-Yield.is (makes_same c.in_ok-yield_body-in-Yield.ensures.labels)

@@ -5,13 +5,14 @@ use Rattle.rv_asm.proofs.Shared.{appends_none, appends_then, appends_weaker}
 use Rattle.rv_asm.specs.declared.part.Meaning.{Meaning}
 use Rattle.cmm_bitset.specs.Sets.{has}
 use Rattle.cmm_program.proofs.Shared.{list_all_get}
+use Rattle.cmm_emit.proofs.NodeLabels.{own_made, waits_made}
 use Rattle.cmm_emit.proofs.Own.{own_node, own_none, own_then, own_with}
 use Rattle.cmm_bitset.proofs.Shared.{member_count-le}
 use Rattle.cmm_emit.proofs.Placing.{code_comes, member_stays, node_stands, one_member_more, place_comes, some_member}
 use Rattle.cmm_emit.proofs.NodeSites.{stand_laid}
 use Rattle.cmm_emit.proofs.Summing.{last_costs, next_costs, rest_costs}
 use Rattle.cmm_emit.proofs.WaitingSites.{waits_behind, waits_with}
-use Rattle.cmm_emit.specs.LaidNodes.{EndsAt, PlacesOwn, SitesStand, SitesWait}
+use Rattle.cmm_emit.specs.LaidNodes.{AreLabelsBehind, EndsAt, PlacesOwn, SitesStand, SitesWait}
 use Rattle.cmm_emit.specs.Naming.{has_kind, label_at}
 use Rattle.cmm_emit.specs.Standing.{labels_with}
 use Rattle.cmm_emit.proofs.node_code.lay_chain.Goals as goal
@@ -40,10 +41,11 @@ returns-in-None-clause-waits c =
     let is = slice_get-get_or nodes at.number node inside ∙ ap Some same in
     let pending = c.loop.invariant.0 in
     let stays : c.lay_node.new.placed ≡ c.loop.placed = rw c.in-None.is at c.in_ok-next.ensures.stays in
-    let labels : c.lay_node.new.asm.labels ≡ labels_with p node.kind c.loop.asm.labels = rw c.in-None.is at c.in_ok-next.ensures.labels in
+    let behind : AreLabelsBehind p node.kind None c.loop.asm.labels c.lay_node.new.asm.labels = rw c.in-None.is at c.in_ok-next.ensures.labels in
     let waits : SitesWait p g (labels_with p node.kind c.loop.asm.labels) c.loop.placed None =
-    waits_with p c.args.targets.now g c.requires.kinds c.requires.sites c.requires.once c.loop.asm.labels c.loop.placed at node is pending.member pending.waits
-    in rw (labels, stays) waits
+    waits_with p c.args.targets.now g c.requires.kinds c.requires.sites c.requires.once c.loop.asm.labels c.loop.placed at node is pending.member pending.waits in
+    let made : SitesWait p g behind.0 c.loop.placed None = waits_made p _ _ behind.0 behind.1 g c.loop.placed None waits in
+    rw (behind.2, stays) made
 
 pub returns-in-None-clause-have : goal.returns-in-None-clause-have
 returns-in-None-clause-have c =
@@ -79,24 +81,26 @@ loop-preserved c =
     let ends : EndsAt p next old c.lay_node.new.placed c.lay_node.new.asm.parts = rw c.in-Some.is at c.in_ok-next.ensures.ends in
     let size = c.loop.invariant.0.laid.size in
     let within : next.number < length old = omega (arith, size, ends.within) in
-    let labels : c.lay_node.new.asm.labels ≡ set (labels_with p node.kind c.loop.asm.labels) (label_at p.nodes next.number).number (Inner true) =
-    rw c.in-Some.is at c.in_ok-next.ensures.labels in
+    let behind : AreLabelsBehind p node.kind (Some next) c.loop.asm.labels c.lay_node.new.asm.labels = rw c.in-Some.is at c.in_ok-next.ensures.labels in
+    let mid = behind.0 in
+    let labels : c.lay_node.new.asm.labels ≡ set mid (label_at p.nodes next.number).number (Inner true) = behind.2 in
     let pending = c.loop.invariant.0 in
-    let sites_wait : SitesWait p g (labels_with p node.kind c.loop.asm.labels) old None =
-    waits_with p y g c.requires.kinds c.requires.sites c.requires.once c.loop.asm.labels old at node is pending.member pending.waits in
+    let sites_wait : SitesWait p g mid old None =
+    waits_made p _ _ mid behind.1 g old None (waits_with p y g c.requires.kinds c.requires.sites c.requires.once c.loop.asm.labels old at node is pending.member pending.waits) in
     let can = list_all_get (λ node. has_kind p y node.kind) nodes at.number node c.requires.kinds is in
-    let own = own_with p y node.kind c.loop.asm.labels can (pending.waits at.number node is (inr refl)) in
+    let own = own_then p c.loop.asm.labels (labels_with p node.kind c.loop.asm.labels) mid (own_with p y node.kind c.loop.asm.labels can (pending.waits at.number node is (inr refl)))
+    (own_made p _ _ mid behind.1) in
     let there = slice_get_within c.loop.asm.labels (label_at p.nodes next.number).number (Inner (has old next.number)) (pending.laid.each next.number ends.within) in
     let waits : SitesWait p g c.lay_node.new.asm.labels c.lay_node.new.placed (Some next) =
-    rw (labels, ends.placed) (waits_behind p y g c.requires.kinds c.requires.sites (labels_with p node.kind c.loop.asm.labels) old next ends.within ends.fresh sites_wait) in (
+    rw (labels, ends.placed) (waits_behind p y g c.requires.kinds c.requires.sites mid old next ends.within ends.fresh sites_wait) in (
       place_comes p y g c.lay_node.new.asm.labels old c.lay_node.new.placed next c.lay_node.new.asm.parts ends c.in_ok-next.ensures.ready c.in_ok-next.ensures.laid waits size have
           (stand_laid p g old at node is pending.stand c.in_ok-next.ensures.code.appends c.in_ok-next.ensures.stands),
       λ k is. rw ends.placed (member_stays old next.number k within (c.loop.invariant.1 k is)),
       rw (ends.placed, one_member_more old next.number within ends.fresh) (omega (arith, c.loop.invariant.2)),
       appends_weaker (appends_then c.loop.invariant.3 appends) (λ x from to does. tt),
       own_then p c.args.asm.now.labels c.loop.asm.labels c.lay_node.new.asm.labels c.loop.invariant.4 (subst (λ (ms : List Meaning). PlacesOwn p c.loop.asm.labels ms) (sym labels)
-          (own_then p c.loop.asm.labels (labels_with p node.kind c.loop.asm.labels) (set (labels_with p node.kind c.loop.asm.labels) (label_at p.nodes next.number).number (Inner true)) own
-          (own_node p (labels_with p node.kind c.loop.asm.labels) next.number ends.within (omega (arith, own.count, there))))),
+          (own_then p c.loop.asm.labels mid (set mid (label_at p.nodes next.number).number (Inner true)) own
+          (own_node p mid next.number ends.within (omega (arith, own.count, there))))),
       rw ends.placed (omega (arith, c.loop.invariant.5, c.in_ok-next.ensures.code.few, next_costs p y g old at next node is pending.member ends.fresh)),
     )
 
@@ -123,10 +127,11 @@ returns-in-None-clause-places c =
     let same : get_or nodes at.number node ≡ node = sym (rw c.as_slice.ensures at c.index-as_slice-at.is) in
     let is = slice_get-get_or nodes at.number node inside ∙ ap Some same in
     let pending = c.loop.invariant.0 in
-    let labels : c.lay_node.new.asm.labels ≡ labels_with p node.kind c.loop.asm.labels = rw c.in-None.is at c.in_ok-next.ensures.labels in
+    let behind : AreLabelsBehind p node.kind None c.loop.asm.labels c.lay_node.new.asm.labels = rw c.in-None.is at c.in_ok-next.ensures.labels in
     let can = list_all_get (λ node. has_kind p y node.kind) nodes at.number node c.requires.kinds is in
-    let own = own_with p y node.kind c.loop.asm.labels can (pending.waits at.number node is (inr refl)) in
-    own_then p c.args.asm.now.labels c.loop.asm.labels c.lay_node.new.asm.labels c.loop.invariant.4 (subst (λ (ms : List Meaning). PlacesOwn p c.loop.asm.labels ms) (sym labels) own)
+    let own = own_then p c.loop.asm.labels (labels_with p node.kind c.loop.asm.labels) behind.0 (own_with p y node.kind c.loop.asm.labels can (pending.waits at.number node is (inr refl)))
+    (own_made p _ _ behind.0 behind.1) in
+    own_then p c.args.asm.now.labels c.loop.asm.labels c.lay_node.new.asm.labels c.loop.invariant.4 (subst (λ (ms : List Meaning). PlacesOwn p c.loop.asm.labels ms) (sym behind.2) own)
 
 pub returns-clause-size : goal.returns-clause-size
 returns-clause-size c =
