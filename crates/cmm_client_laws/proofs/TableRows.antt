@@ -87,7 +87,7 @@ abbrev yield_row : ℕ → ℕ → List VariablePlace → SiteRow
 yield_row return_address procedure variables = record (call_row return_address procedure variables) { yield_values = Some 1 }
 
 abbrev image : List ProcRow → List SiteRow → ImageParts
-image procs sites = record { code = []; initial = []; start = 0x10000; last = 0x10010; main = 0; procs = procs; sites = sites; labels = []; globals = [] }
+image procs sites = record { version = 1; code = []; initial = []; start = 0x10000; last = 0x10010; main = 0; procs = procs; sites = sites; labels = []; globals = [] }
 
 -- ---- compiled programs, as far as tables tell of them
 

@@ -3,7 +3,7 @@ use Rattle.std.proofs.Common.{◌≡◌, ℕ, ◌+◌, ◌≤◌, List, [], ◌+
 use Rattle.std.proofs.lemmas.List.{length-append}
 use Rattle.rv_table.specs.declared.memory_map.TheConstants.{CODE_LENGTH_LIMIT}
 use Rattle.cmm_image.specs.declared.parts.ImageParts.{ImageParts}
-use Rattle.cmm_image.specs.ImageFormat.{header_bytes}
+use Rattle.cmm_image.specs.WholeImage.{header_bytes}
 use Rattle.cmm_image.specs.Images.{IsImage}
 use Rattle.cmm_image.proofs.Shared.{header_long}
 use Rattle.cmm_elf.specs.ElfFormat.{Nothing, elf}

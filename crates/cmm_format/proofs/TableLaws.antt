@@ -1,7 +1,7 @@
 -- Tables of fields, and rows: what is read is spelled so, and what is spelled so is read.
-use Rattle.std.proofs.Common.{◌≡◌, ℕ, zero, suc, List, [], ◌∷◌, ◌++◌, length, Option, Some, None, Ok, refl, sym, ap, subst, ◌∙◌, append_assoc, arith}
+use Rattle.std.proofs.Common.{◌≡◌, ℕ, zero, suc, List, [], ◌∷◌, ◌++◌, length, Option, Some, None, Bool, true, false, Ok, refl, sym, ap, subst, ◌∙◌, append_assoc, arith}
 use Rattle.std.specs.List.{flat_map}
-use Rattle.cmm_format.specs.Formats.{◌>>=◌, Format, AreBytes, as_, ◌▸◌, rows_at, AreRows, rows, counted}
+use Rattle.cmm_format.specs.Formats.{◌>>=◌, Format, AreBytes, as_, seen_as, given, choose, ◌▸◌, rows_at, AreRows, rows, rows_behind_at, AreRowsBehind, rows_behind, counted}
 use Rattle.cmm_format.proofs.FieldLaws.{IsExact, bind_ok, ok_is}
 
 pub then-exact : {A B : Type 0} {F : Format A} {G : A → Format B} → IsExact F → ((a : A) → IsExact (G a)) → IsExact (F ▸ G)
@@ -34,6 +34,32 @@ as-exact {A = A} {B = B} to from {F = F} f there back = record {
       let e = f.again (from b) rest holds in
       rw (e, there b holds) refl;
 }
+
+pub seen-exact : {A B : Type 0} (to : A → B) (from : B → A) {F : Format A} → IsExact F → ((a : A) → F.Holds a → from (to a) ≡ a) → IsExact (seen_as to from F)
+seen-exact {A = A} {B = B} to from {F = F} f back = record {
+  taken = λ bytes b rest fits e.
+      let h = bind_ok (F.at bytes) (λ a. Ok (to a.0, a.1)) (b, rest) e in
+      let t = f.taken bytes h.0.0 h.0.1 fits h.1 in
+      let same = back h.0.0 t.1 in
+      let made : B × List ℕ = (to h.0.0, h.0.1) in
+      subst (λ (y : B × List ℕ). (bytes ≡ F.spelled (from y.0) ++ y.1) × (F.Holds (from y.0) × (to (from y.0) ≡ y.0)) × AreBytes y.1) (ok_is made (b, rest) h.2)
+      (t.0 ∙ ap (λ (a : A). F.spelled a ++ h.0.1) (sym same), (subst F.Holds (sym same) t.1, ap to same), t.2);
+  again = λ b rest holds.
+      let e = f.again (from b) rest holds.0 in
+      rw (e, holds.1) refl;
+}
+
+pub given-exact : {A : Type 0} (value : A) → IsExact (given value)
+given-exact {A = A} value = record {
+  taken = λ bytes a rest fits e.
+      let made : A × List ℕ = (value, bytes) in
+      subst (λ (y : A × List ℕ). (bytes ≡ y.1) × (y.0 ≡ value) × AreBytes y.1) (ok_is made (a, rest) e) (refl, refl, fits);
+  again = λ a rest holds. rw holds refl;
+}
+
+pub choose-exact : {A : Type 0} (b : Bool) {F G : Format A} → IsExact F → IsExact G → IsExact (choose b F G)
+choose-exact true {F = F} {G = G} f g = record { taken = f.taken; again = f.again }
+choose-exact false {F = F} {G = G} f g = record { taken = g.taken; again = g.again }
 
 -- ---- rows
 
@@ -85,4 +111,40 @@ counted-exact {A = A} {count = count} {each = each} number exact one = record {
       let first = number.again (length as_) (flat_map (each None).spelled as_ ++ rest) holds.0 in
       let others = (rows-exact {each = each} exact one (length as_)).again as_ rest (refl, holds.1) in
       rw (append_assoc (count.spelled (length as_)) (flat_map (each None).spelled as_) rest, first) others;
+}
+
+-- ---- rows behind all rows before
+
+module _ {A : Type 0} (each : List A → Format A) (exact : (before : List A) → IsExact (each before)) (one : (before : List A) (a : A) → (each before).spelled a ≡ (each []).spelled a) where
+  behind-taken : (count : ℕ) (before : List A) (bytes : List ℕ) (as_ : List A) (rest : List ℕ) → AreBytes bytes → rows_behind_at (λ before. (each before).at) count before bytes ≡ Ok (as_, rest)
+      → (bytes ≡ flat_map (each []).spelled as_ ++ rest) × ((length as_ ≡ count) × AreRowsBehind (λ before. (each before).Holds) before as_) × AreBytes rest
+  behind-taken zero before bytes as_ rest fits e =
+      let made : List A × List ℕ = ([], bytes) in
+      subst (λ (y : List A × List ℕ). (bytes ≡ flat_map (each []).spelled y.0 ++ y.1) × ((length y.0 ≡ 0) × AreRowsBehind (λ before. (each before).Holds) before y.0) × AreBytes y.1) (ok_is made (as_, rest) e) (refl, (refl, tt), fits)
+  behind-taken (suc count) before bytes as_ rest fits e =
+      let h = bind_ok ((each before).at bytes) (λ a. rows_behind_at (λ before. (each before).at) count (before ++ (a.0 ∷ [])) a.1 >>= λ b. Ok (a.0 ∷ b.0, b.1)) (as_, rest) e in
+      let k = bind_ok (rows_behind_at (λ before. (each before).at) count (before ++ (h.0.0 ∷ [])) h.0.1) (λ b. Ok (h.0.0 ∷ b.0, b.1)) (as_, rest) h.2 in
+      let first = (exact before).taken bytes h.0.0 h.0.1 fits h.1 in
+      let others = behind-taken count (before ++ (h.0.0 ∷ [])) h.0.1 k.0.0 k.0.1 first.2 k.1 in
+      let made : List A × List ℕ = (h.0.0 ∷ k.0.0, k.0.1) in
+      let parts : bytes ≡ ((each []).spelled h.0.0 ++ flat_map (each []).spelled k.0.0) ++ k.0.1 = first.0 ∙ ap (λ (t : List ℕ). t ++ h.0.1) (one before h.0.0) ∙ ap (λ (t : List ℕ). (each []).spelled h.0.0 ++ t) others.0 ∙ sym (append_assoc ((each []).spelled h.0.0) (flat_map (each []).spelled k.0.0) k.0.1) in
+      let count_is : suc (length k.0.0) ≡ suc count = ap suc others.1.0 in
+      subst (λ (y : List A × List ℕ). (bytes ≡ flat_map (each []).spelled y.0 ++ y.1) × ((length y.0 ≡ suc count) × AreRowsBehind (λ before. (each before).Holds) before y.0) × AreBytes y.1) (ok_is made (as_, rest) k.2)
+      (parts, (count_is, (first.1, others.1.1)), others.2)
+
+  behind-again : (as_ : List A) (count : ℕ) (before : List A) (rest : List ℕ) → length as_ ≡ count → AreRowsBehind (λ before. (each before).Holds) before as_
+      → rows_behind_at (λ before. (each before).at) count before (flat_map (each []).spelled as_ ++ rest) ≡ Ok (as_, rest)
+  behind-again [] zero before rest len holds = refl
+  behind-again [] (suc count) before rest len holds = absurd (omega arith)
+  behind-again (a ∷ as_) zero before rest len holds = absurd (omega arith)
+  behind-again (a ∷ as_) (suc count) before rest len holds =
+      let others = behind-again as_ count (before ++ (a ∷ [])) rest (omega arith) holds.1 in
+      let first : (each before).at ((each []).spelled a ++ (flat_map (each []).spelled as_ ++ rest)) ≡ Ok (a, flat_map (each []).spelled as_ ++ rest) =
+      rw (← one before a) ((exact before).again a (flat_map (each []).spelled as_ ++ rest) holds.0) in
+      rw (append_assoc ((each []).spelled a) (flat_map (each []).spelled as_) rest, first, others) refl
+
+pub behind-exact : {A : Type 0} {each : List A → Format A} → ((before : List A) → IsExact (each before)) → ((before : List A) (a : A) → (each before).spelled a ≡ (each []).spelled a) → (count : ℕ) → IsExact (rows_behind each count)
+behind-exact {each = each} exact one count = record {
+  taken = λ bytes as_ rest fits e. behind-taken each exact one count [] bytes as_ rest fits e;
+  again = λ as_ rest holds. behind-again each exact one as_ count [] rest holds.0 holds.1;
 }

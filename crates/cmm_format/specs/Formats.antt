@@ -122,6 +122,26 @@ as_ to from F = record {
   at = λ bytes. F.at bytes >>= λ x. Ok (to x.0, x.1);
 }
 
+-- values of another type, some of which stand for those of a format: those that come back
+abbrev pub seen_as : {A B : Type 0} → (A → B) → (B → A) → Format A → Format B
+seen_as to from F = record {
+  spelled = λ b. F.spelled (from b);
+  Holds = λ b. F.Holds (from b) × (to (from b) ≡ b);
+  at = λ bytes. F.at bytes >>= λ x. Ok (to x.0, x.1);
+}
+
+-- no field, and this value
+abbrev pub given : {A : Type 0} → A → Format A
+given value = record { spelled = λ a. []; Holds = λ a. a ≡ value; at = λ bytes. Ok (value, bytes) }
+
+-- the one format or the other
+abbrev pub choose : {A : Type 0} → Bool → Format A → Format A → Format A
+choose b F G = record {
+  spelled = λ a. elim b [ true ↦ F.spelled a | false ↦ G.spelled a ];
+  Holds = λ a. elim b [ true ↦ F.Holds a | false ↦ G.Holds a ];
+  at = λ bytes. elim b [ true ↦ F.at bytes | false ↦ G.at bytes ];
+}
+
 -- ---- tables of fields
 
 -- a field, and what follows it, which may depend on its value
@@ -161,4 +181,21 @@ counted count each = record {
   spelled = λ as_. count.spelled (length as_) ++ flat_map (each None).spelled as_;
   Holds = λ as_. count.Holds (length as_) × AreRows (λ previous. (each previous).Holds) None as_;
   at = counted_at count.at (λ previous. (each previous).at);
+}
+
+abbrev pub rows_behind_at : {A : Type 0} → (List A → List ℕ → Front A) → ℕ → List A → List ℕ → Front (List A)
+rows_behind_at each zero before bytes = Ok ([], bytes)
+rows_behind_at each (suc count) before bytes =
+    each before bytes >>= λ x. rows_behind_at each count (before ++ (x.0 ∷ [])) x.1 >>= λ y. Ok (x.0 ∷ y.0, y.1)
+
+abbrev pub AreRowsBehind : {A : Type 0} → (List A → A → Type 0) → List A → List A → Type 0
+AreRowsBehind Each before [] = Unit {0}
+AreRowsBehind Each before (a ∷ as_) = Each before a × AreRowsBehind Each (before ++ (a ∷ [])) as_
+
+-- n rows, each of a format that may depend on all rows before
+abbrev pub rows_behind : {A : Type 0} → (List A → Format A) → ℕ → Format (List A)
+rows_behind each count = record {
+  spelled = flat_map (each []).spelled;
+  Holds = λ as_. (length as_ ≡ count) × AreRowsBehind (λ before. (each before).Holds) [] as_;
+  at = rows_behind_at (λ before. (each before).at) count [];
 }

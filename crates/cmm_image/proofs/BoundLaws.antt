@@ -75,7 +75,7 @@ pub rows_are_bounded : RowsAreBounded
 rows_are_bounded i h = record {
   code = is_short (length i.code) h.fields.0.1.1.0.1.0;
   initial = is_most (length i.initial) DATA_LENGTH_LIMIT h.fields.0.1.1.1.0.1.0;
-  procedures = rows_keep (λ previous. (procedure (length i.code) previous).Holds) BoundsProcedure (bounds_procedure (length i.code)) None i.procs h.fields.1.1.1.0.1;
+  procedures = rows_keep (λ previous. (procedure (length i.code) previous).Holds) BoundsProcedure (bounds_procedure (length i.code)) None i.procs h.fields.1.1.1.0.0.1;
   sites = rows_keep (λ previous. (site (length i.code) i.procs previous).Holds) (BoundsSite (length i.code)) (bounds_site (length i.code) i.procs) None i.sites
-      h.fields.1.1.1.1.0.1;
+      h.fields.1.1.1.0.1.1;
 }

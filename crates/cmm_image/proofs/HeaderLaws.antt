@@ -4,7 +4,7 @@ use Rattle.std.proofs.lemmas.List.{length-append}
 use Rattle.cmm_format.specs.Formats.{number_bytes}
 use Rattle.cmm_format.proofs.Shared.{length-number_bytes}
 use Rattle.cmm_image.specs.declared.parts.ImageParts.{ImageParts}
-use Rattle.cmm_image.specs.ImageFormat.{header_bytes}
+use Rattle.cmm_image.specs.WholeImage.{header_bytes}
 
 number_then : (width n : ℕ) (rest : List ℕ) → length (number_bytes width n ++ rest) ≡ width + length rest
 number_then width n rest = omega (arith, length-append (number_bytes width n) rest, length-number_bytes width n)

@@ -24,7 +24,9 @@ use Rattle.cmm_image.specs.declared.rows.LabelRow.{LabelRow}
 use Rattle.cmm_image.specs.declared.rows.GlobalRow.{GlobalRow}
 use Rattle.cmm_abi.specs.Registers.{is_callee_saves}
 use Rattle.cmm_image.specs.Places.{leaves}
-use Rattle.cmm_image.specs.ImageFormat.{formed, within, in_code, is_in_data, above, after, is_width, width_of, width, one_if, magic, is_code_length, is_procedure_count, HeaderFields, header_of, header_fields, counts, header, saved_register, variable, stack_label, variable_number, is_pair, continuation, no_return, is_return_offset, procedure_of, procedure_fields, procedure, has_sites, continuation_number, unwind, span, flags_of, flags_number, flags, exits_in_code, site_lists, procedure_at, site_of_fields, site_fields, site, label, global, image_of, image_fields, image}
+use Rattle.cmm_image.specs.ImageFormat.{formed, within, in_code, is_in_data, above, after, is_width, width_of, width, one_if, magic, is_code_length, is_procedure_count, HeaderFields, header_of, header_fields, counts, header, saved_register, variable, stack_label, variable_number, is_pair, continuation, no_return, is_return_offset, procedure_of, procedure_fields, procedure_with, procedure, has_sites, continuation_number, unwind, span, flags_of, flags_number, flags, is_version, exits_in_code, SiteLists, lists_with, procedure_at, site_of_fields, site_fields, site_with, site, label, global, Tables}
+use Rattle.cmm_image.specs.WholeImage.{image_of, image_fields, image, tables}
+use Rattle.cmm_format.specs.Formats.{Condition, Format}
 use Rattle.cmm_format.proofs.Shared.{IsExact, number-exact, block-exact, text-exact, when-exact, optional-exact}
 use Rattle.cmm_format.proofs.Shared.{then-exact, as-exact, rows-exact, counted-exact}
 use Rattle.cmm_image.proofs.PlaceLaws.{place-exact}
@@ -84,7 +86,7 @@ saved_register-exact frame previous = as-exact (λ x. record { register = x.0; o
     when-exact (within (leaves 8 frame) ∷ []) (number-exact _ 4))
     (λ b holds. refl) (λ a holds. refl)
 
-variable-exact : (previous : Option VariableRow) → IsExact (variable previous)
+pub variable-exact : (previous : Option VariableRow) → IsExact (variable previous)
 variable-exact previous = as-exact (λ x. record { width = x.0; invariant = x.1.0; kind = x.1.1 }) (λ v. (v.width, (v.invariant, v.kind)))
     (then-exact width-exact λ (width : Width).
     then-exact (as-exact (λ n. nat_eq n 1) one_if (when-exact (formed (λ n. nat_le n 1) ∷ []) (number-exact _ 1)) (λ b holds. flag-there b) (λ n holds. flag-back n holds.1.0)) λ (invariant : Bool).
@@ -104,16 +106,22 @@ continuation-exact length frame variables previous = as-exact (λ x. record { pa
     counted-exact (when-exact (formed (λ n. nat_le n 64) ∷ []) (number-exact _ 1)) (variable_number-exact variables) (λ p a. refl))
     (λ b holds. refl) (λ a holds. refl)
 
-procedure-exact : (code_length : ℕ) (previous : Option ProcRow) → IsExact (procedure code_length previous)
-procedure-exact code_length previous = as-exact procedure_of procedure_fields
-    (then-exact (when-exact (above (option_map (λ p. p.code) previous) ∷ in_code code_length ∷ []) (number-exact _ 8)) λ (code : ℕ).
+pub procedure_with-exact : {V : Type 0} {variable : ℕ → Option V → Format V} → ((frame : ℕ) (previous : Option V) → IsExact (variable frame previous)) →
+    ((frame : ℕ) (previous : Option V) (a : V) → (variable frame previous).spelled a ≡ (variable frame None).spelled a) →
+    (code_length : ℕ) (previous : Option ℕ) → IsExact (procedure_with variable code_length previous)
+procedure_with-exact {V = V} {variable = variable} exact one code_length previous =
+    then-exact (when-exact (above previous ∷ in_code code_length ∷ []) (number-exact _ 8)) λ (code : ℕ).
     then-exact (text-exact _) λ (name : List ℕ).
     then-exact (when-exact (formed (λ n. nat_eq (n % 16) 0) ∷ within (λ n. nat_le n 0x10000000) ∷ []) (number-exact _ 4)) λ (frame : ℕ).
     then-exact (optional-exact _ 4 no_return (within (is_return_offset frame) ∷ []) (omega arith)) λ (return_at : Option ℕ).
     then-exact (counted-exact (number-exact _ 1) (saved_register-exact frame) (λ p a. refl)) λ (saved : List SavedRegister).
-    then-exact (counted-exact (when-exact (formed (λ n. nat_le n 1024) ∷ []) (number-exact _ 2)) variable-exact (λ p a. refl)) λ (variables : List VariableRow).
+    then-exact (counted-exact {each = variable frame} (when-exact (formed (λ n. nat_le n 1024) ∷ []) (number-exact _ 2)) (exact frame) (one frame)) λ (variables : List V).
     then-exact (counted-exact (number-exact _ 2) (stack_label-exact frame) (λ p a. refl)) λ (stack_labels : List StackLabelRow).
-    counted-exact (number-exact _ 2) (continuation-exact code_length frame (length variables)) (λ p a. refl))
+    counted-exact (number-exact _ 2) (continuation-exact code_length frame (length variables)) (λ p a. refl)
+
+procedure-exact : (code_length : ℕ) (previous : Option ProcRow) → IsExact (procedure code_length previous)
+procedure-exact code_length previous = as-exact procedure_of procedure_fields
+    (procedure_with-exact {variable = λ frame. variable} (λ frame. variable-exact) (λ frame p a. refl) code_length (option_map (λ p. p.code) previous))
     (λ b holds. refl) (λ a holds. refl)
 
 -- ---- sites
@@ -133,24 +141,33 @@ span-exact previous = as-exact (λ x. record { token = x.0; value = x.1 }) (λ s
     number-exact _ 8)
     (λ b holds. refl) (λ a holds. refl)
 
-site_lists-exact : (code_length frame variables continuations return_address : ℕ) → IsExact (site_lists code_length frame variables continuations return_address)
-site_lists-exact code_length frame variables continuations return_address =
+pub lists_with-exact : {places : Format (List VariablePlace)} → IsExact places → (code_length continuations return_address : ℕ) →
+    IsExact (lists_with places code_length continuations return_address)
+lists_with-exact exact code_length continuations return_address =
     then-exact (counted-exact (when-exact (formed (λ n. nat_le n 64) ∷ within (exits_in_code code_length return_address) ∷ []) (number-exact _ 1)) (continuation_number-exact continuations) (λ p a. refl)) λ (returns : List ContinuationNumber).
     then-exact (counted-exact (number-exact _ 2) (unwind-exact code_length continuations) (λ p a. refl)) λ (unwinds : List UnwindRow).
     then-exact (counted-exact (number-exact _ 2) (continuation_number-exact continuations) (λ p a. refl)) λ (cuts : List ContinuationNumber).
-    then-exact (rows-exact (place-exact frame) (λ p a. refl) variables) λ (variables : List VariablePlace).
+    then-exact exact λ (variables : List VariablePlace).
     counted-exact (number-exact _ 2) span-exact (λ p a. refl)
 
-site-exact : (code_length : ℕ) (procedures : List ProcRow) (previous : Option SiteRow) → IsExact (site code_length procedures previous)
-site-exact code_length procedures previous = as-exact site_of_fields site_fields
-    (then-exact (when-exact (above (option_map (λ s. s.return_address) previous) ∷ in_code code_length ∷ []) (number-exact _ 8)) λ (return_address : ℕ).
-    then-exact (when-exact (formed (has_sites procedures) ∷ []) (number-exact _ 4)) λ (procedure : ℕ).
+pub site_with-exact : (address : List (Condition ℕ)) {procedure : Format ℕ} {lists : ℕ → ℕ → Format SiteLists} → IsExact procedure →
+    ((procedure return_address : ℕ) → IsExact (lists procedure return_address)) → IsExact (site_with address procedure lists)
+site_with-exact address {procedure = procedure} {lists = lists} exact all = as-exact site_of_fields site_fields
+    (then-exact (when-exact address (number-exact _ 8)) λ (return_address : ℕ).
+    then-exact exact λ (n : ℕ).
     then-exact (number-exact _ 4) λ (number : ℕ).
     then-exact flags-exact λ (flags : Bool × Bool).
     then-exact (optional-exact _ 1 255 (formed (λ n. nat_le n 64) ∷ []) (omega arith)) λ (yield_values : Option ℕ).
     then-exact (counted-exact {each = λ previous. width} (when-exact (formed (λ n. nat_le n 64) ∷ []) (number-exact _ 1)) (λ p. width-exact) (λ p a. refl)) λ (results : List Width).
-    site_lists-exact code_length (procedure_at procedures procedure).frame (length (procedure_at procedures procedure).variables) (length (procedure_at procedures procedure).continuations) return_address)
+    all n return_address)
     (λ b holds. refl) (λ a holds. refl)
+
+site-exact : (code_length : ℕ) (procedures : List ProcRow) (previous : Option SiteRow) → IsExact (site code_length procedures previous)
+site-exact code_length procedures previous =
+    site_with-exact (above (option_map (λ s. s.return_address) previous) ∷ in_code code_length ∷ []) (when-exact (formed (has_sites procedures) ∷ []) (number-exact _ 4))
+    (λ procedure.
+    lists_with-exact (rows-exact (place-exact (procedure_at procedures procedure).frame) (λ p a. refl) (length (procedure_at procedures procedure).variables)) code_length
+    (length (procedure_at procedures procedure).continuations))
 
 -- ---- labels and global registers
 
@@ -178,14 +195,14 @@ counts-exact =
     when-exact (formed (λ n. nat_eq n 0) ∷ []) (number-exact _ 4)
 
 -- the fields of a header that it need not keep are always the same
-header-same : (front version code initial start last procedures sites labels globals main nothing : ℕ) → front ≡ magic → version ≡ 1 → nothing ≡ 0
-    → ◌≡◌ {A = HeaderFields} (magic, (1, (code, (initial, (start, (last, (procedures, (sites, (labels, (globals, (main, 0))))))))))) (front, (version, (code, (initial, (start, (last, (procedures, (sites, (labels, (globals, (main, nothing)))))))))))
-header-same front version code initial start last procedures sites labels globals main nothing e f g = rw (e, f, g) refl
+header-same : (front version code initial start last procedures sites labels globals main nothing : ℕ) → front ≡ magic → nothing ≡ 0
+    → ◌≡◌ {A = HeaderFields} (magic, (version, (code, (initial, (start, (last, (procedures, (sites, (labels, (globals, (main, 0))))))))))) (front, (version, (code, (initial, (start, (last, (procedures, (sites, (labels, (globals, (main, nothing)))))))))))
+header-same front version code initial start last procedures sites labels globals main nothing e f = rw (e, f) refl
 
 header-exact : IsExact header
 header-exact = as-exact header_of header_fields
     (then-exact (when-exact (record { rule = NotAnImage; holds = λ n. nat_eq n magic } ∷ []) (number-exact _ 4)) λ (front : ℕ).
-    then-exact (when-exact (record { rule = OtherImageVersion; holds = λ n. nat_eq n 1 } ∷ []) (number-exact _ 4)) λ (version : ℕ).
+    then-exact (when-exact (record { rule = OtherImageVersion; holds = is_version } ∷ []) (number-exact _ 4)) λ (version : ℕ).
     then-exact (when-exact (within is_code_length ∷ []) (number-exact _ 8)) λ (code_length : ℕ).
     then-exact (when-exact (within (λ n. nat_le n DATA_LENGTH_LIMIT) ∷ []) (number-exact _ 8)) λ (data_length : ℕ).
     then-exact (when-exact (in_code code_length ∷ []) (number-exact _ 8)) λ (start : ℕ).
@@ -193,12 +210,17 @@ header-exact = as-exact header_of header_fields
     counts-exact)
     (λ b holds. refl)
     (λ a holds. header-same a.0 a.1.0 a.1.1.0 a.1.1.1.0 a.1.1.1.1.0 a.1.1.1.1.1.0 a.1.1.1.1.1.1.0 a.1.1.1.1.1.1.1.0 a.1.1.1.1.1.1.1.1.0 a.1.1.1.1.1.1.1.1.1.0 a.1.1.1.1.1.1.1.1.1.1.0 a.1.1.1.1.1.1.1.1.1.1.1
-    (eqb-true a.0 magic holds.0.1.0) (eqb-true a.1.0 1 holds.1.0.1.0) (eqb-true a.1.1.1.1.1.1.1.1.1.1.1 0 holds.1.1.1.1.1.1.1.1.1.1.1.1.0))
+    (eqb-true a.0 magic holds.0.1.0) (eqb-true a.1.1.1.1.1.1.1.1.1.1.1 0 holds.1.1.1.1.1.1.1.1.1.1.1.1.0))
+
+tables-exact : (h : Header) → IsExact (tables h)
+tables-exact h =
+    then-exact (rows-exact (procedure-exact h.code_length) (λ p a. refl) h.procedures) λ (procedures : List ProcRow).
+    rows-exact (site-exact h.code_length procedures) (λ p a. refl) h.sites
 
 -- the header counts what follows
 image-same : (h : Header) (code initial : List ℕ) (procs : List ProcRow) (sites : List SiteRow) (labels : List LabelRow) (globals : List GlobalRow)
     → length code ≡ h.code_length → length initial ≡ h.data_length → length procs ≡ h.procedures → length sites ≡ h.sites → length labels ≡ h.labels → length globals ≡ h.globals
-    → image_fields (image_of (h, (code, (initial, (procs, (sites, (labels, globals))))))) ≡ (h, (code, (initial, (procs, (sites, (labels, globals))))))
+    → image_fields (image_of (h, (code, (initial, ((procs, sites), (labels, globals)))))) ≡ (h, (code, (initial, ((procs, sites), (labels, globals)))))
 image-same h code initial procs sites labels globals a b c d e f = rw (a, b, c, d, e, f) refl
 
 pub image-exact : IsExact image
@@ -206,9 +228,8 @@ image-exact = as-exact image_of image_fields
     (then-exact header-exact λ (h : Header).
     then-exact (block-exact _ h.code_length) λ (code : List ℕ).
     then-exact (block-exact _ h.data_length) λ (initial : List ℕ).
-    then-exact (rows-exact (procedure-exact h.code_length) (λ p a. refl) h.procedures) λ (procedures : List ProcRow).
-    then-exact (rows-exact (site-exact h.code_length procedures) (λ p a. refl) h.sites) λ (sites : List SiteRow).
+    then-exact (tables-exact h) λ (tables : Tables).
     then-exact (rows-exact (label-exact h.data_length) (λ p a. refl) h.labels) λ (labels : List LabelRow).
     rows-exact global-exact (λ p a. refl) h.globals)
     (λ b holds. refl)
-    (λ a holds. image-same a.0 a.1.0 a.1.1.0 a.1.1.1.0 a.1.1.1.1.0 a.1.1.1.1.1.0 a.1.1.1.1.1.1 holds.1.0.0 holds.1.1.0.0 holds.1.1.1.0.0 holds.1.1.1.1.0.0 holds.1.1.1.1.1.0.0 holds.1.1.1.1.1.1.0)
+    (λ a holds. image-same a.0 a.1.0 a.1.1.0 a.1.1.1.0.0 a.1.1.1.0.1 a.1.1.1.1.0 a.1.1.1.1.1 holds.1.0.0 holds.1.1.0.0 holds.1.1.1.0.0.0 holds.1.1.1.0.1.0 holds.1.1.1.1.0.0 holds.1.1.1.1.1.0)

@@ -5,7 +5,7 @@ use Rattle.cmm_image.specs.declared.parts.ImageParts.{ImageParts}
 use Rattle.cmm_image.specs.declared.rows.VariablePlace.TheVariants.{Slot, Register}
 use Rattle.cmm_format.specs.Formats.{number_at, number_bytes, block_at, text_at, text_bytes}
 use Rattle.cmm_image.specs.Places.{place_at}
-use Rattle.cmm_image.specs.ImageFormat.{image}
+use Rattle.cmm_image.specs.WholeImage.{image}
 use Rattle.cmm_format.specs.Wholes.{whole_in}
 use Rattle.cmm_image.specs.Images.{image_in}
 
@@ -21,8 +21,9 @@ body : List ℕ
 body =
     19 ∷ 0 ∷ 0 ∷ 0 ∷ 0 ∷ 0 ∷ 1 ∷ 0 ∷ 0 ∷ 0 ∷ 0 ∷ 0 ∷ 1 ∷ 109 ∷ 0 ∷ 0 ∷ 0 ∷ 0 ∷ 255 ∷ 255 ∷ 255 ∷ 255 ∷ 0 ∷ 0 ∷ 0 ∷ 0 ∷ 0 ∷ 0 ∷ 0 ∷ []
 
-small : ImageParts
+pub small : ImageParts
 small = record {
+  version = 1;
   code = 19 ∷ 0 ∷ 0 ∷ 0 ∷ [];
   initial = [];
   start = 65536;

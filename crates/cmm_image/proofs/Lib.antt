@@ -7,4 +7,10 @@ mod SearchLaws
 mod SiteLaws
 mod BoundLaws
 mod ImageRows
+mod MaskLaws
+mod OrderLaws
+mod SecondLaws
+mod DistinctLaws
+mod FirstLaws
+mod SecondRows
 pub mod Shared

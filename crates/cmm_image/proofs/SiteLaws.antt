@@ -84,4 +84,4 @@ keep_frames code_length procedures previous (s ∷ ss) procs rows (suc k) d shor
     keep_frames code_length procedures (Some s) ss procs rows.1 k d (omega arith)
 
 pub sites_keep_frames : SitesKeepFrames
-sites_keep_frames i h = keep_frames (length i.code) i.procs None i.sites h.fields.1.1.1.0.1 h.fields.1.1.1.1.0.1
+sites_keep_frames i h = keep_frames (length i.code) i.procs None i.sites h.fields.1.1.1.0.0.1 h.fields.1.1.1.0.1.1

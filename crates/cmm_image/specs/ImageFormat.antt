@@ -1,4 +1,5 @@
--- The format of an image: its fields in their order, a line each, with their conditions in the order in which they are tested.
+-- The fields of an image in version 1, a line each, in their order, with their conditions in the order in which they are tested; in version 2 too,
+-- apart from the tables of procedures and sites (`SecondFormat`).
 use Rattle.std.specs.Prelude.{ℕ, ◌+◌, ◌*◌, ◌%◌, ◌==◌, ◌&&◌, ◌||◌, nat_lt, nat_le, Bool, true, false, if◌then◌else◌, List, [], ◌∷◌, length, slice_get, is_some, Option, Some, None}
 use Rattle.std.specs.Option.{option_map}
 use Rattle.std.specs.Cmp.Lexicographic.{slice_cmp}
@@ -9,7 +10,6 @@ use Rattle.cmm_words.specs.declared.width.Width.TheVariants.{W8, W16, W32, W64}
 use Rattle.cmm_words.specs.Widths.{bits}
 use Rattle.rv_table.specs.declared.memory_map.TheConstants.{CODE_BASE, CODE_LENGTH_LIMIT, DATA_BASE, DATA_LENGTH_LIMIT, GLOBAL_COUNT_LIMIT}
 use Rattle.cmm_image.specs.declared.header.Header.{Header}
-use Rattle.cmm_image.specs.declared.parts.ImageParts.{ImageParts}
 use Rattle.cmm_image.specs.declared.rows.VariableNumber.{VariableNumber}
 use Rattle.cmm_image.specs.declared.rows.ContinuationNumber.{ContinuationNumber}
 use Rattle.cmm_image.specs.declared.rows.SavedRegister.{SavedRegister}
@@ -23,7 +23,7 @@ use Rattle.cmm_image.specs.declared.rows.SpanRow.{SpanRow}
 use Rattle.cmm_image.specs.declared.rows.SiteRow.{SiteRow}
 use Rattle.cmm_image.specs.declared.rows.LabelRow.{LabelRow}
 use Rattle.cmm_image.specs.declared.rows.GlobalRow.{GlobalRow}
-use Rattle.cmm_format.specs.Formats.{Format, Condition, number, block, text, ◌when◌, ◌▸◌, as_, optional, rows, counted}
+use Rattle.cmm_format.specs.Formats.{Format, Condition, number, text, ◌when◌, ◌▸◌, as_, optional, rows, counted}
 use Rattle.cmm_abi.specs.Registers.{is_callee_saves}
 use Rattle.cmm_image.specs.Places.{variable_place, leaves}
 
@@ -97,6 +97,9 @@ one_if false = 0
 abbrev pub magic : ℕ
 magic = 0x494d4d43
 
+abbrev pub is_version : ℕ → Bool
+is_version n = n == 1
+
 abbrev pub is_code_length : ℕ → Bool
 is_code_length n = nat_le 4 n && nat_le n CODE_LENGTH_LIMIT && (n % 4 == 0)
 
@@ -111,6 +114,7 @@ HeaderFields = ℕ × (ℕ × (ℕ × (ℕ × (ℕ × (ℕ × Counts)))))
 
 abbrev pub header_of : HeaderFields → Header
 header_of (front, (version, (code, (initial, (start, (last, (procedures, (sites, (labels, (globals, (main, nothing))))))))))) = record {
+  version = version;
   code_length = code;
   data_length = initial;
   start = start;
@@ -123,7 +127,7 @@ header_of (front, (version, (code, (initial, (start, (last, (procedures, (sites,
 }
 
 abbrev pub header_fields : Header → HeaderFields
-header_fields h = (magic, (1, (h.code_length, (h.data_length, (h.start, (h.last, (h.procedures, (h.sites, (h.labels, (h.globals, (h.main, 0)))))))))))
+header_fields h = (magic, (h.version, (h.code_length, (h.data_length, (h.start, (h.last, (h.procedures, (h.sites, (h.labels, (h.globals, (h.main, 0)))))))))))
 
 abbrev pub counts : Format Counts
 counts =
@@ -137,7 +141,7 @@ counts =
 abbrev pub header : Format Header
 header = as_ header_of header_fields (
     u32 when (record { rule = NotAnImage; holds = λ n. n == magic } ∷ [])
-    ▸ λ front. u32 when (record { rule = OtherImageVersion; holds = λ n. n == 1 } ∷ [])
+    ▸ λ front. u32 when (record { rule = OtherImageVersion; holds = is_version } ∷ [])
     ▸ λ version. u64 when (within is_code_length ∷ [])
     ▸ λ code_length. u64 when (within (λ n. nat_le n DATA_LENGTH_LIMIT) ∷ [])
     ▸ λ data_length. u64 when (in_code code_length ∷ [])
@@ -184,8 +188,12 @@ no_return = 0xFFFFFFFF
 abbrev pub is_return_offset : ℕ → ℕ → Bool
 is_return_offset frame n = (n % 8 == 0) && leaves 8 frame n
 
+-- the fields of a procedure whose variables are kept as values of a type
+abbrev pub FieldsWith : Type 0 → Type 0
+FieldsWith V = ℕ × (List ℕ × (ℕ × (Option ℕ × (List SavedRegister × (List V × (List StackLabelRow × List ContinuationRow))))))
+
 abbrev pub ProcedureFields : Type 0
-ProcedureFields = ℕ × (List ℕ × (ℕ × (Option ℕ × (List SavedRegister × (List VariableRow × (List StackLabelRow × List ContinuationRow))))))
+ProcedureFields = FieldsWith VariableRow
 
 abbrev pub procedure_of : ProcedureFields → ProcRow
 procedure_of (code, (name, (frame, (return_at, (saved, (variables, (stack_labels, continuations))))))) = record {
@@ -202,17 +210,20 @@ procedure_of (code, (name, (frame, (return_at, (saved, (variables, (stack_labels
 abbrev pub procedure_fields : ProcRow → ProcedureFields
 procedure_fields p = (p.code, (p.name, (p.frame, (p.return_at, (p.saved, (p.variables, (p.stack_labels, p.continuations)))))))
 
-abbrev pub procedure : ℕ → Option ProcRow → Format ProcRow
-procedure code_length previous = as_ procedure_of procedure_fields (
-    u64 when (above (option_map (λ p. p.code) previous) ∷ in_code code_length ∷ [])
+-- the fields of a procedure, whose variables, in a frame of a size, have a format of their own: behind a procedure at an address
+abbrev pub procedure_with : {V : Type 0} → (ℕ → Option V → Format V) → ℕ → Option ℕ → Format (FieldsWith V)
+procedure_with variable code_length previous =
+    u64 when (above previous ∷ in_code code_length ∷ [])
     ▸ λ code. text ImageIsCut
     ▸ λ name. u32 when (formed (λ n. n % 16 == 0) ∷ within (λ n. nat_le n 0x10000000) ∷ [])
     ▸ λ frame. optional ImageIsCut 4 no_return (within (is_return_offset frame) ∷ [])
     ▸ λ return_at. counted u8 (saved_register frame)
-    ▸ λ saved. counted (u16 when (formed (λ n. nat_le n 1024) ∷ [])) variable
+    ▸ λ saved. counted (u16 when (formed (λ n. nat_le n 1024) ∷ [])) (variable frame)
     ▸ λ variables. counted u16 (stack_label frame)
     ▸ λ stack_labels. counted u16 (continuation code_length frame (length variables))
-    )
+
+abbrev pub procedure : ℕ → Option ProcRow → Format ProcRow
+procedure code_length previous = as_ procedure_of procedure_fields (procedure_with (λ frame. variable) code_length (option_map (λ p. p.code) previous))
 
 -- ---- sites
 
@@ -228,8 +239,11 @@ abbrev pub procedure_at : List ProcRow → ℕ → ProcRow
 procedure_at procedures n = or_none (slice_get procedures n)
 
 -- a procedure may have sites: it is there, its frame has 16 bytes, and it saves its return address
+abbrev pub may_have_sites : ℕ → Option ℕ → Bool
+may_have_sites frame return_at = nat_le 16 frame && is_some return_at
+
 abbrev pub has_sites : List ProcRow → ℕ → Bool
-has_sites procedures n = nat_le 16 (procedure_at procedures n).frame && is_some (procedure_at procedures n).return_at
+has_sites procedures n = may_have_sites (procedure_at procedures n).frame (procedure_at procedures n).return_at
 
 abbrev pub continuation_number : ℕ → Option ContinuationNumber → Format ContinuationNumber
 continuation_number count previous = as_ (λ n. record { 0 = n }) (λ c. c.0) (u16 when (formed (λ n. nat_lt n count) ∷ []))
@@ -285,28 +299,38 @@ site_fields s = (s.return_address, (s.procedure, (s.number, ((s.never_returns, s
 abbrev pub exits_in_code : ℕ → ℕ → ℕ → Bool
 exits_in_code code_length return_address n = is_in_code code_length (return_address + 4 * n)
 
--- the exits, places and spans of a site, in a procedure whose frame has a size and which has n variables and continuations
-abbrev pub site_lists : ℕ → ℕ → ℕ → ℕ → ℕ → Format SiteLists
-site_lists code_length frame variables continuations return_address =
+-- the exits, places and spans of a site, in a procedure which has n continuations, and the places of whose variables have a format
+abbrev pub lists_with : Format (List VariablePlace) → ℕ → ℕ → ℕ → Format SiteLists
+lists_with places code_length continuations return_address =
     counted (u8 when (formed (λ n. nat_le n 64) ∷ within (exits_in_code code_length return_address) ∷ [])) (continuation_number continuations)
     ▸ λ returns. counted u16 (unwind code_length continuations)
     ▸ λ unwinds. counted u16 (continuation_number continuations)
-    ▸ λ cuts. rows (variable_place frame) variables
+    ▸ λ cuts. places
     ▸ λ variables. counted u16 span
+
+-- those in a procedure whose frame has a size and which has n variables, each of whose places stands at the site
+abbrev pub site_lists : ℕ → ℕ → ℕ → ℕ → ℕ → Format SiteLists
+site_lists code_length frame variables continuations return_address = lists_with (rows (variable_place frame) variables) code_length continuations return_address
 
 abbrev pub site_lists_in : ℕ → ProcRow → ℕ → Format SiteLists
 site_lists_in code_length p return_address = site_lists code_length p.frame (length p.variables) (length p.continuations) return_address
 
-abbrev pub site : ℕ → List ProcRow → Option SiteRow → Format SiteRow
-site code_length procedures previous = as_ site_of_fields site_fields (
-    u64 when (above (option_map (λ s. s.return_address) previous) ∷ in_code code_length ∷ [])
-    ▸ λ return_address. u32 when (formed (has_sites procedures) ∷ [])
+-- the fields of a site: the conditions of its return address, and the formats of its procedure's number and of its lists
+abbrev pub site_with : List (Condition ℕ) → Format ℕ → (ℕ → ℕ → Format SiteLists) → Format SiteRow
+site_with address procedure lists = as_ site_of_fields site_fields (
+    u64 when address
+    ▸ λ return_address. procedure
     ▸ λ procedure. u32
     ▸ λ number. flags
     ▸ λ flags. optional ImageIsCut 1 255 (formed (λ n. nat_le n 64) ∷ [])
     ▸ λ yield_values. counted (u8 when (formed (λ n. nat_le n 64) ∷ [])) (λ previous. width)
-    ▸ λ results. site_lists_in code_length (procedure_at procedures procedure) return_address
+    ▸ λ results. lists procedure return_address
     )
+
+abbrev pub site : ℕ → List ProcRow → Option SiteRow → Format SiteRow
+site code_length procedures previous =
+    site_with (above (option_map (λ s. s.return_address) previous) ∷ in_code code_length ∷ []) (u32 when (formed (has_sites procedures) ∷ []))
+    (λ procedure. site_lists_in code_length (procedure_at procedures procedure))
 
 -- ---- labels and global registers
 
@@ -322,52 +346,10 @@ global previous = as_ (λ x. record { width = x.0; name = x.1 }) (λ g. (g.width
     ▸ λ width. text ImageIsCut when (after (option_map (λ g. g.name) previous) ∷ [])
     )
 
--- ---- the whole
+-- ---- the tables of version 1: the records of all procedures, and then those of all sites
 
-abbrev pub ImageFields : Type 0
-ImageFields = Header × (List ℕ × (List ℕ × (List ProcRow × (List SiteRow × (List LabelRow × List GlobalRow)))))
+abbrev pub Tables : Type 0
+Tables = List ProcRow × List SiteRow
 
-abbrev pub image_of : ImageFields → ImageParts
-image_of (h, (code, (initial, (procs, (sites, (labels, globals)))))) = record {
-  code = code;
-  initial = initial;
-  start = h.start;
-  last = h.last;
-  main = h.main;
-  procs = procs;
-  sites = sites;
-  labels = labels;
-  globals = globals;
-}
-
--- the header counts what the image has
-abbrev pub image_header : ImageParts → Header
-image_header i = record {
-  code_length = length i.code;
-  data_length = length i.initial;
-  start = i.start;
-  last = i.last;
-  procedures = length i.procs;
-  sites = length i.sites;
-  labels = length i.labels;
-  globals = length i.globals;
-  main = i.main;
-}
-
--- the 64 bytes with which the image begins
-abbrev pub header_bytes : ImageParts → List ℕ
-header_bytes i = header.spelled (image_header i)
-
-abbrev pub image_fields : ImageParts → ImageFields
-image_fields i = (image_header i, (i.code, (i.initial, (i.procs, (i.sites, (i.labels, i.globals))))))
-
-abbrev pub image : Format ImageParts
-image = as_ image_of image_fields (
-    header
-    ▸ λ h. block ImageIsCut h.code_length
-    ▸ λ code. block ImageIsCut h.data_length
-    ▸ λ initial. rows (procedure h.code_length) h.procedures
-    ▸ λ procedures. rows (site h.code_length procedures) h.sites
-    ▸ λ sites. rows (label h.data_length) h.labels
-    ▸ λ labels. rows global h.globals
-    )
+abbrev pub first_tables : ℕ → ℕ → ℕ → Format Tables
+first_tables code_length procedures sites = rows (procedure code_length) procedures ▸ λ procs. rows (site code_length procs) sites

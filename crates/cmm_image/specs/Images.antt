@@ -8,7 +8,7 @@ use Rattle.cmm_image.specs.declared.fault.ImageFault.TheVariants.{At, Memory}
 use Rattle.cmm_image.specs.declared.parts.ImageParts.{ImageParts}
 use Rattle.cmm_image.specs.declared.reading.TheConstants.{IMAGE_LIMIT}
 use Rattle.cmm_format.specs.Wholes.{Ends, whole_in, IsFirstBroken}
-use Rattle.cmm_image.specs.ImageFormat.{image}
+use Rattle.cmm_image.specs.WholeImage.{image}
 
 -- an image keeps the conditions of all fields, and is not too long
 pub record IsImage (i : ImageParts) : Type 0 where

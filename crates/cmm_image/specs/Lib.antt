@@ -1,5 +1,7 @@
 pub mod Places
 pub mod ImageFormat
+pub mod SecondFormat
+pub mod WholeImage
 pub mod Images
 pub mod Sites
 pub mod InFrames

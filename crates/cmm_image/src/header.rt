@@ -14,8 +14,8 @@ use rv_table::memory_map::{CODE_LENGTH_LIMIT, DATA_LENGTH_LIMIT, GLOBAL_COUNT_LI
 /// The first four bytes of an image, "CMMI", as a number.
 pub(crate) const MAGIC: u32 = 0x494d_4d43;
 
-/// The version of the format.
-pub(crate) const VERSION: u32 = 1;
+/// The version whose tables are those of all procedures and then those of all sites.
+const FIRST_VERSION: u32 = 1;
 
 /// The most procedures.
 const PROCEDURE_COUNT_LIMIT: u32 = 65_535;
@@ -23,6 +23,8 @@ const PROCEDURE_COUNT_LIMIT: u32 = 65_535;
 /// The header: the lengths, addresses and counts of what follows.
 #[derive(Clone, Copy, PartialEq, Eq)]
 pub(crate) struct Header {
+    /// The version of the format.
+    pub(crate) version: u32,
     /// In bytes.
     pub(crate) code_length: u64,
     /// In bytes.
@@ -58,7 +60,7 @@ pub(crate) fn read_header(reader: &mut Reader<'_>) -> Result<Header, Unread>
     require(magic == MAGIC, Rule::NotAnImage, field)?;
     let field = reader.left();
     let version = reader.u32(Rule::ImageIsCut)?;
-    require(version == VERSION, Rule::OtherImageVersion, field)?;
+    require(version == FIRST_VERSION, Rule::OtherImageVersion, field)?;
     let field = reader.left();
     let code_length = reader.u64(Rule::ImageIsCut)?;
     require(is_code_length(code_length), Rule::ImageOutOfRange, field)?;
@@ -73,6 +75,7 @@ pub(crate) fn read_header(reader: &mut Reader<'_>) -> Result<Header, Unread>
     let last = code_address(reader, code_length)?;
     let counts = row_counts(reader)?;
     Ok(Header {
+        version,
         code_length,
         data_length,
         start,

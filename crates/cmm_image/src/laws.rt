@@ -1,6 +1,6 @@
 //! Laws of the format: the contract of a function that does nothing.
 
-ghost use Rattle.cmm_image.specs.Laws.{EachMeansOneThing, ImagesAreOne, NoImageHasAFault, RowsAreBounded, SitesKeepFrames};
+ghost use Rattle.cmm_image.specs.Laws.{EachMeansOneThing, ImagesAreOne, NoImageHasAFault, RowsAreBounded, SecondKeepsFirst, SecondTablesAreRead, SitesKeepFrames};
 
 /// Bytes are one image, or they have a first fault, and never both.
 pub fn bytes_mean_one_thing()
@@ -18,4 +18,14 @@ pub fn sites_keep_frames()
 /// addresses.
 pub fn rows_are_bounded()
     ensures { RowsAreBounded }
+{}
+
+/// Version 2's tables of procedures and sites have one spelling each, and are what stands at the front of it.
+pub fn second_tables_are_read()
+    ensures { SecondTablesAreRead }
+{}
+
+/// What version 2's tables of procedures and sites keep, those of version 1 keep.
+pub fn second_tables_keep_the_first()
+    ensures { SecondKeepsFirst }
 {}

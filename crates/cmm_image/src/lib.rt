@@ -8,7 +8,8 @@
 //!   is among them.
 //! - `reading`, `fault`: `read_image`, and why there is no image. `writing`: `write_image`, `write_header`.
 //! - `bounds`: what the numbers of records are measured by. `widths`: widths as they are read.
-//! - `header`, `procedure`, `procedure_parts`, `site`, `site_parts`, `symbols`: the records as they are read.
+//! - `header`, `procedure`, `procedure_parts`, `site`, `site_parts`, `symbols`: the records as they are read. `procedure_record`: those of
+//!   procedures in version 2.
 //! - `row_bytes`: the records as they are written.
 //! - `laws`: what bytes are, an image or a first fault.
 //!
@@ -24,6 +25,7 @@ pub mod laws;
 mod parts;
 mod procedure;
 mod procedure_parts;
+mod procedure_record;
 mod reading;
 mod row_bytes;
 mod rows;

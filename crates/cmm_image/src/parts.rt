@@ -6,6 +6,8 @@ use cmm_items::Items;
 /// The code, the data and the tables of an image, which may break the format's rules.
 #[derive(Drop)]
 pub struct ImageParts {
+    /// The version of the format in which it has bytes; what the image does hangs on nothing of it.
+    pub version: u32,
     /// The bytes of the code, from `CODE_BASE` on.
     pub code: Items<u8>,
     /// The bytes of data at the start, from `DATA_BASE` on.

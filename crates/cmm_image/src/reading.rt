@@ -1,7 +1,8 @@
 //! `read_image`: from the bytes of an image to the image.
 
 ghost use Rattle.std.specs.Prelude.{◌≡◌, ℕ, IfOk, IfErr};
-ghost use Rattle.cmm_image.specs.ImageFormat.{image};
+ghost use Rattle.cmm_image.specs.ImageFormat.{first_tables as tables_first};
+ghost use Rattle.cmm_image.specs.WholeImage.{image};
 ghost use Rattle.cmm_image.specs.Images.{SpellsImage, IsFirstFault, ImageFaultAt, IsImageRead, IsRefusal, image_in};
 ghost use Rattle.cmm_format.specs.Reading.{Gives, Reads};
 ghost use Rattle.cmm_image.specs.inside.Wholes.{fault_of};
@@ -13,7 +14,9 @@ use crate::fault::ImageFault;
 use crate::header::read_header;
 use crate::image::Image;
 use crate::parts::ImageParts;
+use crate::rows::{ProcRow, SiteRow};
 use cmm_format::{Reader, Unread, broken, read_rows};
+use cmm_items::Items;
 use cmm_rules::Rule;
 use std::alloc::Global;
 
@@ -81,13 +84,16 @@ fn front_parts(reader: &mut Reader<'_>) -> Result<ImageParts, Unread>
         variables: 0,
         continuations: 0,
     };
-    let rows = read_rows(reader, &bounds, header.procedures as usize)?;
-    let procedures = Procedures { bounds, rows };
-    let sites = read_rows(reader, &procedures, header.sites as usize)?;
+    let (procs, sites) = first_tables(
+        reader,
+        bounds,
+        header.procedures as usize,
+        header.sites as usize,
+    )?;
     let labels = read_rows(reader, &bounds, header.labels as usize)?;
     let globals = read_rows(reader, &bounds, header.globals as usize)?;
-    let Procedures { rows: procs, .. } = procedures;
     Ok(ImageParts {
+        version: header.version,
         code,
         initial,
         start: header.start,
@@ -98,4 +104,20 @@ fn front_parts(reader: &mut Reader<'_>) -> Result<ImageParts, Unread>
         labels,
         globals,
     })
+}
+
+/// The tables of version 1: so many procedures, and then so many sites.
+fn first_tables(
+    reader: &mut Reader<'_>,
+    bounds: Bounds,
+    procedures: usize,
+    sites: usize,
+) -> Result<(Items<ProcRow>, Items<SiteRow>), Unread>
+    ensures { Reads result ((tables_first bounds.code_length procedures sites).at reader.old.rest.now) reader.new.rest.now }
+{
+    let rows = read_rows(reader, &bounds, procedures)?;
+    let procedures = Procedures { bounds, rows };
+    let sites = read_rows(reader, &procedures, sites)?;
+    let Procedures { rows, .. } = procedures;
+    Ok((rows, sites))
 }

@@ -4,7 +4,7 @@ ghost use Rattle.std.specs.Prelude.{◌≡◌, ◌==◌, ◌+◌, ◌*◌, ◌<�
 ghost use Rattle.std.specs.Option.{option_map};
 ghost use Rattle.cmm_rules.specs.declared.rule.Rule.TheVariants.{ImageIsCut};
 ghost use Rattle.cmm_format.specs.Formats.{counted_at, optional, ◌when◌};
-ghost use Rattle.cmm_image.specs.ImageFormat.{site, site_lists, has_sites, procedure_at, continuation_number, exits_in_code, is_in_code, is_above, flags, u8, u32, formed, within, width};
+ghost use Rattle.cmm_image.specs.ImageFormat.{site, site_lists, site_lists_in, has_sites, procedure_at, continuation_number, exits_in_code, is_in_code, is_above, flags, u8, u32, formed, within, width};
 ghost use Rattle.cmm_format.specs.Reading.{Reads, Sees};
 ghost use Rattle.cmm_image.specs.inside.Wholes.{lists_seen};
 
@@ -44,9 +44,8 @@ impl Read<Procedures> for SiteRow {
         let number = reader.u32(Rule::ImageIsCut)?;
         let (never_returns, aborts) = exit_flags(reader)?;
         let yield_values = yield_values(reader)?;
-        let bounds = procedures.of(procedure);
-        let results = results(reader, &bounds)?;
-        let tail = tail(reader, &bounds, return_address)?;
+        let results = results(reader, &procedures.bounds)?;
+        let tail = tail_in(reader, procedures, procedure, return_address)?;
         Ok(SiteRow {
             return_address,
             procedure,
@@ -72,6 +71,20 @@ pub(crate) struct SiteTail {
     pub(crate) cuts: Items<ContinuationNumber>,
     pub(crate) variables: Items<VariablePlace>,
     pub(crate) spans: Items<SpanRow>,
+}
+
+/// The lists of a site of the procedure of a number.
+fn tail_in(
+    reader: &mut Reader<'_>,
+    procedures: &Procedures,
+    procedure: u32,
+    return_address: u64,
+) -> Result<SiteTail, Unread>
+    requires { IsTrue (is_in_code procedures.now.bounds.code_length return_address) }
+    ensures { Sees lists_seen result ((site_lists_in procedures.now.bounds.code_length (procedure_at procedures.now.rows procedure) return_address).at reader.old.rest.now) reader.new.rest.now }
+{
+    let bounds = procedures.of(procedure);
+    tail(reader, &bounds, return_address)
 }
 
 /// The exits of a site, the places of the variables of its procedure, and its spans.

@@ -1,11 +1,12 @@
 //! `write_image`: the bytes of an image, and `write_header`: those of its header.
 
 ghost use Rattle.std.specs.Prelude.{◌≡◌, ◌++◌, OnOk, IfOk};
-ghost use Rattle.cmm_image.specs.ImageFormat.{counts, header, header_bytes, image, image_header};
+ghost use Rattle.cmm_image.specs.ImageFormat.{counts, header};
+ghost use Rattle.cmm_image.specs.WholeImage.{header_bytes, image, image_header};
 ghost use Rattle.cmm_image.specs.Images.{SpellsImage};
-ghost use Rattle.cmm_image.specs.inside.Spellings.{counts_of, image_body, image_records};
+ghost use Rattle.cmm_image.specs.inside.Spellings.{counts_of, image_body, image_records, image_symbols, image_tables};
 
-use crate::header::{MAGIC, VERSION};
+use crate::header::MAGIC;
 use crate::image::Image;
 use crate::parts::ImageParts;
 use cmm_format::{put_count32, put_u32, put_u64, write_rows};
@@ -49,8 +50,22 @@ fn put_body(out: &mut Vec<u8>, i: &ImageParts) -> Result<(), AllocError>
 fn put_records(out: &mut Vec<u8>, i: &ImageParts) -> Result<(), AllocError>
     ensures { OnOk result (out.new.items ≡ out.old.items ++ image_records i.now) }
 {
+    put_tables(out, i)?;
+    put_symbols(out, i)
+}
+
+/// The records of procedures and of sites.
+fn put_tables(out: &mut Vec<u8>, i: &ImageParts) -> Result<(), AllocError>
+    ensures { OnOk result (out.new.items ≡ out.old.items ++ image_tables i.now) }
+{
     write_rows(out, i.procs.as_slice())?;
-    write_rows(out, i.sites.as_slice())?;
+    write_rows(out, i.sites.as_slice())
+}
+
+/// The records of labels and of global registers.
+fn put_symbols(out: &mut Vec<u8>, i: &ImageParts) -> Result<(), AllocError>
+    ensures { OnOk result (out.new.items ≡ out.old.items ++ image_symbols i.now) }
+{
     write_rows(out, i.labels.as_slice())?;
     write_rows(out, i.globals.as_slice())
 }
@@ -59,7 +74,7 @@ fn put_header(out: &mut Vec<u8>, i: &ImageParts) -> Result<(), AllocError>
     ensures { OnOk result (out.new.items ≡ out.old.items ++ header.spelled (image_header i.now)) }
 {
     put_u32(out, MAGIC)?;
-    put_u32(out, VERSION)?;
+    put_u32(out, i.version)?;
     put_u64(out, i.code.len() as u64)?;
     put_u64(out, i.initial.len() as u64)?;
     put_u64(out, i.start)?;

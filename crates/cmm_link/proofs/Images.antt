@@ -24,7 +24,8 @@ use Rattle.cmm_image.specs.declared.rows.LabelRow.{LabelRow}
 use Rattle.cmm_image.specs.declared.rows.ProcRow.{ProcRow}
 use Rattle.cmm_image.specs.declared.rows.SiteRow.{SiteRow}
 use Rattle.cmm_format.specs.Formats.{AreBytes, AreRows}
-use Rattle.cmm_image.specs.ImageFormat.{global, header, image, image_header, is_code_length, label, procedure, site}
+use Rattle.cmm_image.specs.ImageFormat.{global, header, is_code_length, label, procedure, site}
+use Rattle.cmm_image.specs.WholeImage.{image, image_header}
 use Rattle.cmm_image.specs.Images.{IsImage}
 use Rattle.cmm_image.proofs.Shared.{header_long}
 use Rattle.cmm_allocate.specs.declared.procedure.ProcedurePlaces.{ProcedurePlaces}
@@ -64,6 +65,7 @@ pub record AreGiven (p : Program) (places : List ProcedurePlaces) (d : DataImage
 -- the parts, with what they are made from put in
 abbrev parts_of : Program → List ProcedurePlaces → Text → List ℕ → List SiteRow → List LabelRow → ImageParts
 parts_of p places t initial sites labels = record {
+  version = 1;
   code = t.code;
   initial = initial;
   start = t.start;
@@ -76,19 +78,19 @@ parts_of p places t initial sites labels = record {
 }
 
 -- parts with equal fields are equal
-fields_same : (code code' initial initial' : List ℕ) (start start' last last' main main' : ℕ) (procs procs' : List ProcRow) (sites sites' : List SiteRow)
-    (labels labels' : List LabelRow) (globals globals' : List GlobalRow) → code ≡ code' → initial ≡ initial' → start ≡ start' → last ≡ last' → main ≡ main' →
+fields_same : (version version' : ℕ) (code code' initial initial' : List ℕ) (start start' last last' main main' : ℕ) (procs procs' : List ProcRow) (sites sites' : List SiteRow)
+    (labels labels' : List LabelRow) (globals globals' : List GlobalRow) → version ≡ version' → code ≡ code' → initial ≡ initial' → start ≡ start' → last ≡ last' → main ≡ main' →
     procs ≡ procs' → sites ≡ sites' → labels ≡ labels' → globals ≡ globals' →
     ◌≡◌ {A = ImageParts}
-    record { code = code; initial = initial; start = start; last = last; main = main; procs = procs; sites = sites; labels = labels; globals = globals }
-    record { code = code'; initial = initial'; start = start'; last = last'; main = main'; procs = procs'; sites = sites'; labels = labels'; globals = globals' }
-fields_same code code' initial initial' start start' last last' main main' procs procs' sites sites' labels labels' globals globals' a b c d e f g h k = cc
+    record { version = version; code = code; initial = initial; start = start; last = last; main = main; procs = procs; sites = sites; labels = labels; globals = globals }
+    record { version = version'; code = code'; initial = initial'; start = start'; last = last'; main = main'; procs = procs'; sites = sites'; labels = labels'; globals = globals' }
+fields_same version version' code code' initial initial' start start' last last' main main' procs procs' sites sites' labels labels' globals globals' v a b c d e f g h k = cc
 
-same_parts : (i j : ImageParts) → i.code ≡ j.code → i.initial ≡ j.initial → i.start ≡ j.start → i.last ≡ j.last → i.main ≡ j.main → i.procs ≡ j.procs →
+same_parts : (i j : ImageParts) → i.version ≡ j.version → i.code ≡ j.code → i.initial ≡ j.initial → i.start ≡ j.start → i.last ≡ j.last → i.main ≡ j.main → i.procs ≡ j.procs →
     i.sites ≡ j.sites → i.labels ≡ j.labels → i.globals ≡ j.globals → i ≡ j
-same_parts i j a b c d e f g h k =
-    fields_same i.code j.code i.initial j.initial i.start j.start i.last j.last i.main j.main i.procs j.procs i.sites j.sites i.labels j.labels i.globals j.globals
-    a b c d e f g h k
+same_parts i j v a b c d e f g h k =
+    fields_same i.version j.version i.code j.code i.initial j.initial i.start j.start i.last j.last i.main j.main i.procs j.procs i.sites j.sites i.labels j.labels i.globals j.globals
+    v a b c d e f g h k
 
 code_room : (n : ℕ) → is_code_length n ≡ true → n ≤ CODE_LENGTH_LIMIT
 code_room n is =
@@ -241,7 +243,7 @@ module _
     fields_hold : image.Holds parts
     fields_hold = (
       header_holds,
-      ((refl, code_bytes), ((refl, data_bytes), ((refl, procedures_hold), ((refl, sites_keep), ((refl, labels_keep), (refl, globals_keep)))))),
+      ((refl, code_bytes), ((refl, data_bytes), (((refl, procedures_hold), (refl, sites_keep)), ((refl, labels_keep), (refl, globals_keep))))),
     )
 
     short : length (image.spelled parts) ≤ IMAGE_LIMIT
@@ -251,7 +253,7 @@ module _
         let procs_part = flat_map (procedure (length t.code) None).spelled procs in
         let symbols = labels_part ++ globals_part in
         let sites_part = flat_map (site (length t.code) procs None).spelled sites in
-        let from_procs = procs_part ++ (sites_part ++ symbols) in
+        let from_procs = (procs_part ++ sites_part) ++ symbols in
         let code = given.room.code in
         let tokens = given.room.tokens in
         let count = given.range.procedure_count in
@@ -264,9 +266,9 @@ module _
           length-append initial from_procs,
           size,
           data_room,
-          length-append procs_part (sites_part ++ symbols),
+          length-append (procs_part ++ sites_part) symbols,
+          length-append procs_part sites_part,
           procedures_long,
-          length-append sites_part symbols,
           sites_long (length t.code) procs sites sites_valid,
           sites_cost,
           count,
@@ -285,7 +287,7 @@ module _
 
   pub made_are_image : (i : ImageParts) → AreMade p places d t i → IsImage i
   made_are_image i made =
-      subst IsImage (sym (same_parts i (parts_of p places t i.initial i.sites i.labels) made.code refl made.start made.last made.main made.procedures refl refl made.globals))
+      subst IsImage (sym (same_parts i (parts_of p places t i.initial i.sites i.labels) made.version made.code refl made.start made.last made.main made.procedures refl refl made.globals))
       (parts_are_image i.initial i.labels made.size made.labels made.few (subst AreBytes made.code made.code_bytes) made.data_bytes
       (subst (All IsNamed) made.procedures made.procedure_names) made.label_names (subst (All IsNamedGlobal) made.globals made.global_names) i.sites made.sites made.small_spans)
 

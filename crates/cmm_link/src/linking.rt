@@ -60,6 +60,7 @@ fn parts(
     let initial = filled_data(laid, text.procedures.as_slice());
     know_bytes(text.code.as_slice());
     Ok(ImageParts {
+        version: 1,
         code: text.code,
         initial,
         start: text.start,

@@ -7,7 +7,7 @@ use Rattle.cmm_rules.specs.declared.rule.Rule.TheVariants.{SnapshotIsCut}
 use Rattle.rv_table.specs.declared.memory_map.TheConstants.{BELOW_STACK}
 use Rattle.cmm_format.proofs.Shared.{IsExact, number-exact, block-exact, when-exact, then-exact, as-exact, rows-exact}
 use Rattle.cmm_image.specs.declared.parts.ImageParts.{ImageParts}
-use Rattle.cmm_image.specs.ImageFormat.{header_bytes}
+use Rattle.cmm_image.specs.WholeImage.{header_bytes}
 use Rattle.cmm_snapshot.specs.SnapshotFormat.{RegisterFields, SnapshotFields, allowed, is_front, is_header_of, is_stack_size, magic, numbered_count, registers, snapshot, snapshot_fields, snapshot_of}
 
 -- register 0 is 0

@@ -5,7 +5,7 @@ use Rattle.cmm_format.specs.Formats.{number_at, number_bytes, block_at}
 use Rattle.cmm_format.specs.Wholes.{whole_in}
 use Rattle.cmm_format.proofs.Shared.{long-breaks}
 use Rattle.cmm_image.specs.declared.parts.ImageParts.{ImageParts}
-use Rattle.cmm_image.specs.ImageFormat.{header_bytes}
+use Rattle.cmm_image.specs.WholeImage.{header_bytes}
 use Rattle.cmm_snapshot.specs.declared.reading.TheConstants.{SNAPSHOT_LIMIT}
 use Rattle.cmm_snapshot.specs.SnapshotFormat.{Snapshot, numbered_count, registers, snapshot}
 use Rattle.cmm_snapshot.specs.Snapshots.{IsFirstFault, snapshot_ends, snapshot_in}
@@ -13,6 +13,7 @@ use Rattle.cmm_snapshot.specs.Snapshots.{IsFirstFault, snapshot_ends, snapshot_i
 -- four bytes of code, no data, one procedure without a frame, which is main
 small : ImageParts
 small = record {
+  version = 1;
   code = 19 ∷ 0 ∷ 0 ∷ 0 ∷ [];
   initial = [];
   start = 65536;

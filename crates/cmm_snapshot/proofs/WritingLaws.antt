@@ -11,7 +11,7 @@ use Rattle.rv_memory.specs.Regions.{Fits, Regions}
 use Rattle.cmm_format.specs.Formats.{AreBytes, AreRows, number_bytes}
 use Rattle.cmm_format.proofs.Shared.{length-number_bytes}
 use Rattle.cmm_image.specs.declared.parts.ImageParts.{ImageParts}
-use Rattle.cmm_image.specs.ImageFormat.{header_bytes}
+use Rattle.cmm_image.specs.WholeImage.{header_bytes}
 use Rattle.cmm_image.proofs.Shared.{header_long}
 use Rattle.cmm_snapshot.specs.SnapshotFormat.{is_stack_size, magic, registers, snapshot, taken_of, u64}
 use Rattle.cmm_snapshot.specs.Snapshots.{SpellsSnapshot}

@@ -6,7 +6,7 @@ use Rattle.rv_table.specs.declared.registers.Regs.{Regs}
 use Rattle.rv_memory.specs.Regions.{Regions}
 use Rattle.cmm_format.specs.Formats.{Format, Condition, number, block, rows, as_, ◌when◌, ◌▸◌}
 use Rattle.cmm_image.specs.declared.parts.ImageParts.{ImageParts}
-use Rattle.cmm_image.specs.ImageFormat.{header_bytes}
+use Rattle.cmm_image.specs.WholeImage.{header_bytes}
 
 -- What a snapshot has of a stopped program, beside its image.
 pub record Snapshot : Type 0 where

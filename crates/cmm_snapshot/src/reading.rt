@@ -5,7 +5,7 @@ ghost use Rattle.cmm_rules.specs.declared.rule.Rule.TheVariants.{SnapshotIsCut};
 ghost use Rattle.cmm_rules.specs.declared.rule.Rule.{Rule};
 ghost use Rattle.cmm_format.specs.Formats.{block, rows_at, ◌when◌};
 ghost use Rattle.cmm_format.specs.Reading.{GivesSeen, Reads, Sees};
-ghost use Rattle.cmm_image.specs.ImageFormat.{header_bytes};
+ghost use Rattle.cmm_image.specs.WholeImage.{header_bytes};
 ghost use Rattle.cmm_image.specs.declared.parts.ImageParts.{ImageParts};
 ghost use Rattle.cmm_snapshot.specs.SnapshotFormat.{Snapshot, allowed, is_front, is_header_of, is_stack_size as is_size_of_stack, numbered_count, registers, snapshot, taken_of, u32, u64};
 ghost use Rattle.cmm_snapshot.specs.Snapshots.{IsFirstFault, IsRefusal, IsSnapshotRead, SnapshotFaultAt, SpellsSnapshot, snapshot_in};

@@ -22,13 +22,17 @@ site_row_lists s =
 abbrev pub counts_of : ImageParts → Counts
 counts_of i = (length i.procs, (length i.sites, (length i.labels, (length i.globals, (i.main, 0)))))
 
+-- the records of procedures and of sites
+abbrev pub image_tables : ImageParts → List ℕ
+image_tables i = flat_map (procedure 0 None).spelled i.procs ++ flat_map (site 0 [] None).spelled i.sites
+
+-- the records of labels and of global registers
+abbrev pub image_symbols : ImageParts → List ℕ
+image_symbols i = flat_map (label 0 None).spelled i.labels ++ flat_map (global None).spelled i.globals
+
 -- the records of an image, without their counts
 abbrev pub image_records : ImageParts → List ℕ
-image_records i =
-    flat_map (procedure 0 None).spelled i.procs
-    ++ (flat_map (site 0 [] None).spelled i.sites
-    ++ (flat_map (label 0 None).spelled i.labels
-    ++ flat_map (global None).spelled i.globals))
+image_records i = image_tables i ++ image_symbols i
 
 -- what follows an image's header
 abbrev pub image_body : ImageParts → List ℕ
