@@ -7,55 +7,21 @@ ghost use Rattle.cmm_live.specs.Exact.{AreLiveSets};
 ghost use Rattle.cmm_live.specs.Locals.{local_count};
 ghost use Rattle.cmm_allocate.specs.Allocated.{AreAllocated, temporaries};
 ghost use Rattle.cmm_allocate.specs.Placed.{ArePlaces};
-ghost use Rattle.cmm_allocate.specs.inside.Colouring.{AreRegisters, IsColoured, home, next_slot, register_in, register_of};
+ghost use Rattle.cmm_allocate.specs.inside.Colouring.{AreRegisters, home, next_slot, register_in, register_of};
 
 use crate::classes::{Classes, sort_locals};
 use crate::hints::hints;
 use cmm_abi::registers::CALLEE_SAVES;
 use cmm_bitset::BitSet;
 use cmm_chain::Location;
-use cmm_colour::{Colours, Hint, colour};
+use cmm_colour::{Colours, colour};
 use cmm_graph::Graph;
 use cmm_items::Items;
-use cmm_live::{LiveSets, interference_within};
+use cmm_live::{LiveSets, interference_within_both};
 use std::alloc::{AllocError, Global};
 
 /// The temporary registers that locals get: t3 to t6 and, if those are taken or values come or go in these, a2 to a5.
 pub(crate) const TEMPORARIES: [u8; 8] = [28, 29, 30, 31, 12, 13, 14, 15];
-
-/// Colours for the locals of a class by their conflicts, those that suit them where that is possible.
-fn colour_class(
-    alloc: Global,
-    g: &Graph,
-    live: &LiveSets,
-    class: &BitSet,
-    k: u32,
-    hints: &[Hint],
-) -> Result<Colours, AllocError>
-    requires few { local_count g.now < 2 ^ 32 }
-    requires live { AreLiveSets g.now live.now }
-    requires class { length class.now ≡ local_count g.now }
-    ensures { IfOk result (λ colours. IsColoured g.now class.now k colours) }
-{
-    let conflicts = interference_within(alloc, g, live, class)?;
-    colour(alloc, &conflicts, k, hints)
-}
-
-/// Colours for the locals of a class by the temporary registers.
-fn colour_temporary(
-    alloc: Global,
-    g: &Graph,
-    live: &LiveSets,
-    class: &BitSet,
-) -> Result<Colours, AllocError>
-    requires few { local_count g.now < 2 ^ 32 }
-    requires live { AreLiveSets g.now live.now }
-    requires class { length class.now ≡ local_count g.now }
-    ensures { IfOk result (λ colours. IsColoured g.now class.now (length temporaries) colours) }
-{
-    let hints = hints(alloc, g)?;
-    colour_class(alloc, g, live, class, TEMPORARIES.len() as u32, &hints)
-}
 
 /// The register of a local, if it is of the class and has a colour.
 fn register_of(class: &BitSet, colours: &Colours, registers: &[u8], number: u32) -> Option<u8>
@@ -86,9 +52,17 @@ fn colour_both(alloc: Global, g: &Graph, live: &LiveSets) -> Result<Registers, A
     ensures { IfOk result (λ r. AreRegisters g.now live.now r.classes.temporary r.temporary r.classes.callee_saves r.callee_saves) }
 {
     let classes = sort_locals(alloc, g, live)?;
-    let temporary = colour_temporary(alloc, g, live, &classes.temporary)?;
+    let (among_temporary, among_saved) = interference_within_both(
+        alloc,
+        g,
+        live,
+        &classes.temporary,
+        &classes.callee_saves,
+    )?;
+    let hints = hints(alloc, g)?;
+    let temporary = colour(alloc, &among_temporary, TEMPORARIES.len() as u32, &hints)?;
     let k = CALLEE_SAVES.len() as u32;
-    let callee_saves = colour_class(alloc, g, live, &classes.callee_saves, k, &[])?;
+    let callee_saves = colour(alloc, &among_saved, k, &[])?;
     Ok(Registers {
         classes,
         temporary,

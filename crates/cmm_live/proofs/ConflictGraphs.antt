@@ -1,6 +1,6 @@
 -- The pairs that were joined are those that conflict.
 use Rattle.std.proofs.Math.Bool.{and_comm}
-use Rattle.std.proofs.Common.{◌≡◌, ◌⊎◌, inl, inr, ℕ, ◌<◌, ◌==◌, ◌&&◌, ◌||◌, not, Bool, true, false, List, [], ◌∷◌, length, get_or, refl, sym, ◌∙◌, ap, subst}
+use Rattle.std.proofs.Common.{◌≡◌, ◌⊎◌, inl, inr, ℕ, ◌<◌, ◌==◌, ◌&&◌, ◌||◌, not, Bool, true, List, [], ◌∷◌, length, get_or, sym, ◌∙◌, ap, subst}
 use Rattle.std.specs.Prelude.{IsTrue}
 use Rattle.std.specs.List.{list_any}
 use Rattle.std.proofs.lemmas.Bool.{and_from, and_parts, eq-eqb, eqb-true, or_cases, or_left, or_right}
@@ -18,7 +18,7 @@ use Rattle.cmm_live.specs.Conflicts.{Conflicts, are_after_write, are_at_site, co
 use Rattle.cmm_live.specs.Exact.{AreLiveSets, has_local}
 use Rattle.cmm_live.specs.Interference.{AreConflicts, AreConflictsWithin}
 use Rattle.cmm_live.specs.Locals.{local_count, local_number}
-use Rattle.cmm_live.specs.inside.Interfering.{HavePairs, HaveSites, HaveWrites, is_behind, is_number_of, is_pair, row_has}
+use Rattle.cmm_live.specs.inside.Interfering.{AreConflictSets, AreRows, HavePairs, HaveSites, HaveWrites, is_behind, is_number_of, is_pair, row_has}
 use Rattle.cmm_live.proofs.Conflicting.{same_from, same_itself, sets_decide_conflicts}
 use Rattle.cmm_live.proofs.Interfering.{any_same}
 use Rattle.cmm_live.proofs.Marking.{number_below, same_local}
@@ -146,14 +146,24 @@ module _ (g : Graph) (found : LiveSets) (are : AreLiveSets g found) (written row
               ]
             ]
 
--- the same, as the sets are read
-pub found_exactly : (g : Graph) (found : LiveSets) → AreLiveSets g found → (before sites written rows read : List (List Bool)) (class : List Bool) (graph : List (List ℕ)) → before ≡ found.before →
-    sites ≡ found.sites → HaveWrites g (local_count g) before g.nodes written → HaveSites (length written) sites written rows → read ≡ rows → HavePairs class read graph →
-    length class ≡ local_count g → AreConflictsWithin g class graph
-found_exactly g found are before sites written rows read class graph is_before is_sites writes_in sites_in reads pairs size =
-    exactly g found are written rows (subst (λ (s : List (List Bool)). HaveWrites g (local_count g) s g.nodes written) is_before writes_in)
-    (subst (λ (s : List (List Bool)). HaveSites (local_count g) s written rows) is_sites (subst (λ n. HaveSites n sites written rows) writes_in.are_rows.size sites_in))
-    class graph (subst (λ (s : List (List Bool)). HavePairs class s graph) reads pairs) size
+-- the sets that were made, by how they are read
+pub sets_made : (g : Graph) (found : LiveSets) (before sites written rows : List (List Bool)) → before ≡ found.before → sites ≡ found.sites →
+    HaveWrites g (local_count g) before g.nodes written → HaveSites (length written) sites written rows → AreConflictSets g found rows
+sets_made g found before sites written rows is_before is_sites writes_in sites_in = record {
+  written = written;
+  writes_in = subst (λ (s : List (List Bool)). HaveWrites g (local_count g) s g.nodes written) is_before writes_in;
+  sites_in = subst (λ (s : List (List Bool)). HaveSites (local_count g) s written rows) is_sites (subst (λ n. HaveSites n sites written rows) writes_in.are_rows.size sites_in);
+}
+
+-- the sets have so many rows
+pub sets_sized : (g : Graph) (found : LiveSets) (rows : List (List Bool)) → AreConflictSets g found rows → AreRows (local_count g) rows
+sets_sized g found rows sets = sets.sites_in.are_rows
+
+-- the pairs of a class, by the sets as they are read
+pub found_exactly : (g : Graph) (found : LiveSets) → AreLiveSets g found → (rows read : List (List Bool)) → AreConflictSets g found rows → read ≡ rows → (class : List Bool) →
+    length class ≡ local_count g → (graph : List (List ℕ)) → HavePairs class read graph → AreConflictsWithin g class graph
+found_exactly g found are rows read sets reads class size graph pairs =
+    exactly g found are sets.written rows sets.writes_in sets.sites_in class graph (subst (λ (s : List (List Bool)). HavePairs class s graph) reads pairs) size
 
 -- the sets of sites have a size
 pub sized_sites : (g : Graph) (found : LiveSets) → AreLiveSets g found → (sets : List (List Bool)) → sets ≡ found.sites → (k : ℕ) (d : List Bool) → k < length sets →

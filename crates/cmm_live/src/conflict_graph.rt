@@ -10,7 +10,7 @@ ghost use Rattle.cmm_graph.specs.Paths.{writes};
 ghost use Rattle.cmm_live.specs.Exact.{AreLiveSets};
 ghost use Rattle.cmm_live.specs.Interference.{AreConflicts, AreConflictsWithin};
 ghost use Rattle.cmm_live.specs.Locals.{local_count};
-ghost use Rattle.cmm_live.specs.inside.Interfering.{AreRows, HavePairs, HaveSites, HaveWrites, JoinedTo, TakeIn, is_behind, is_number_of, is_one_of, is_other};
+ghost use Rattle.cmm_live.specs.inside.Interfering.{AreConflictSets, AreRows, HavePairs, HaveSites, HaveWrites, JoinedTo, TakeIn, is_behind, is_number_of, is_one_of, is_other};
 ghost use Rattle.cmm_live.specs.inside.Unions.{AreSized};
 
 use crate::equation::union_before;
@@ -156,6 +156,17 @@ fn pairs(alloc: Global, rows: &[BitSet], class: &BitSet) -> Result<Conflicts, Al
     Ok(conflicts)
 }
 
+/// The set of each local of a graph. An error is want of memory.
+fn conflict_sets(alloc: Global, g: &Graph, live: &LiveSets) -> Result<Vec<BitSet>, AllocError>
+    requires few { local_count g.now < 2 ^ 32 }
+    requires live { AreLiveSets g.now live.now }
+    ensures { IfOk result (λ sets. AreConflictSets g.now live.now sets.items) }
+{
+    let mut sets = rows_of_writes(alloc, g, live.before.as_slice())?;
+    add_sites(alloc, live.sites.as_slice(), &mut sets)?;
+    Ok(sets)
+}
+
 /// Which locals of a class conflict: a graph of their numbers in which just the pairs are joined that do. An error is want of memory.
 pub fn interference_within(
     alloc: Global,
@@ -168,9 +179,29 @@ pub fn interference_within(
     requires class { length class.now ≡ local_count g.now }
     ensures { IfOk result (λ conflicts. AreConflictsWithin g.now class.now conflicts) }
 {
-    let mut rows = rows_of_writes(alloc, g, live.before.as_slice())?;
-    add_sites(alloc, live.sites.as_slice(), &mut rows)?;
-    pairs(alloc, &rows, class)
+    let sets = conflict_sets(alloc, g, live)?;
+    pairs(alloc, &sets, class)
+}
+
+/// Which locals of each of two classes conflict, as `interference_within` finds them, from one look at the nodes. An error is want of memory.
+pub fn interference_within_both(
+    alloc: Global,
+    g: &Graph,
+    live: &LiveSets,
+    first: &BitSet,
+    second: &BitSet,
+) -> Result<(Conflicts, Conflicts), AllocError>
+    requires few { local_count g.now < 2 ^ 32 }
+    requires live { AreLiveSets g.now live.now }
+    requires first { length first.now ≡ local_count g.now }
+    requires second { length second.now ≡ local_count g.now }
+    ensures first { IfOk result (λ found. AreConflictsWithin g.now first.now found.0) }
+    ensures second { IfOk result (λ found. AreConflictsWithin g.now second.now found.1) }
+{
+    let sets = conflict_sets(alloc, g, live)?;
+    let among_first = pairs(alloc, &sets, first)?;
+    let among_second = pairs(alloc, &sets, second)?;
+    Ok((among_first, among_second))
 }
 
 /// The set of all locals.

@@ -30,6 +30,6 @@ mod predecessors;
 mod sites;
 mod worklist;
 
-pub use conflict_graph::{interference, interference_within};
+pub use conflict_graph::{interference, interference_within, interference_within_both};
 pub use live_sets::{LiveSets, liveness, liveness_of_all};
 pub use locals::number_of;

@@ -8,8 +8,9 @@ use Rattle.cmm_graph.specs.declared.node.Node.{Node}
 use Rattle.cmm_graph.specs.declared.graph.Graph.{Graph}
 use Rattle.cmm_graph.specs.Paths.{successors, writes}
 use Rattle.cmm_graph.specs.Ranges.{is_local}
+use Rattle.cmm_live.specs.declared.live_sets.LiveSets.{LiveSets}
 use Rattle.cmm_live.specs.Exact.{set_at}
-use Rattle.cmm_live.specs.Locals.{local_number}
+use Rattle.cmm_live.specs.Locals.{local_count, local_number}
 
 -- so many sets of as many numbers
 pub record AreRows (count : ℕ) (rows : List (List Bool)) : Type 0 where
@@ -50,6 +51,12 @@ pub record HaveWrites (g : Graph) (count : ℕ) (before : List (List Bool)) (nod
 pub record HaveSites (count : ℕ) (sites old new : List (List Bool)) : Type 0 where
   pub are_rows : AreRows count new
   pub each : (a b : ℕ) → a < count → row_has new a b ≡ (row_has old a b || list_any (λ set. has set a && has set b) sites)
+
+-- both: the set of each local has what is live after the nodes that write it, and what is live at the sites at which it is
+pub record AreConflictSets (g : Graph) (found : LiveSets) (rows : List (List Bool)) : Type 0 where
+  pub written : List (List Bool)
+  pub writes_in : HaveWrites g (local_count g) found.before g.nodes written
+  pub sites_in : HaveSites (local_count g) found.sites written rows
 
 -- ---- pairs
 
