@@ -33,9 +33,8 @@ CRATES = {
     "cmm_simulation": ["cmm_following"],
     "cmm_digraph": ["cmm_peeling", "cmm_cycles"],
     "cmm_grammar_laws": ["cmm_readers"],
-    "parser_rows": ["cmm_trees"],
-    "static_rows": ["cmm_faults"],
-    "typing_rows": ["cmm_resolved"],
+    "front_rows": ["cmm_trees", "cmm_faults", "cmm_resolved", "parser_rows", "static_rows", "typing_rows"],
+    "value_tests": ["command_tests", "middle_tests", "run_tests"],
     "code_rows": ["code_tests"],
 }
 NEW = {old: new for new, olds in CRATES.items() for old in olds}

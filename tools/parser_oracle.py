@@ -1,9 +1,11 @@
 #!/usr/bin/env python3
-"""An independent recognizer of the grammar: it tries every alternative at every place, and knows neither the parser nor its readers.
+r"""An independent recognizer of the grammar: it tries every alternative at every place, and knows neither the parser nor its readers.
 
 Reads texts from standard input, one a line, each a whole unit, and prints for each the tree as the parser's types print it, or the token at
 which rule 10 is broken, or that the text has more trees than one. An argument names another part of the grammar to start from, as `part`.
-crates/parser_rows/stdout is what it prints for crates/parser_rows/stdin.
+crates/front_rows/stdout has what it prints for those of crates/front_rows/stdin that follow the word `tree` and a tab:
+
+    sed -n 's/^tree\t//p' crates/front_rows/stdin | tools/parser_oracle.py
 """
 
 import re

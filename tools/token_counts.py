@@ -1,18 +1,21 @@
 #!/usr/bin/env python3
 """Counts the tokens of units, apart from the compiler: token_counts.py [--examples | --write].
 
-A case is a line, its units divided by tabs, as in crates/static_rows/stdin. Of each case that breaks no rule by crates/static_rows/stdout the line is printed that must
-stand there: how many tokens the units have, and then of each procedure, from its name to its last brace, how many belong to statements of its own, and how many it has
+A case is a line, its units divided by tabs, as in crates/front_rows/stdin, but for the lines there that begin with a word of SHOWN. Of each case that breaks no rule by
+crates/front_rows/stdout the line is printed that must stand there: how many tokens the units have, and then of each procedure, from its name to its last brace, how many belong to statements of its own, and how many it has
 in all. What belongs to no statement is its name, its formals, the braces of its body, and its declarations. A declaration of a body begins with `stackdata`, or with
 words other than `foreign`, `span` and the like that are followed by another name: the type of locals and what stands before it. `--examples` prints the cases that
-the examples are, one a line, each with the units that it imports from; `--write` puts the lines printed into crates/static_rows/stdout.
+the examples are, one a line, each with the units that it imports from; `--write` puts the lines printed into crates/front_rows/stdout.
 """
 import os
 import re
 import sys
 
 TOP = os.path.dirname(os.path.dirname(os.path.abspath(__file__)))
-FAULTS = f"{TOP}/crates/static_rows"
+FAULTS = f"{TOP}/crates/front_rows"
+
+# The words of lines of crates/front_rows/stdin that show something else of units.
+SHOWN = {"graphs", "tree", "names"}
 
 # The examples that are whole programs, and those whose units come from several files.
 PROGRAMS = ["alternate", "bytes", "coroutine", "cut", "difference", "exception", "generator", "interpreter", "loop", "recursion", "stackdata", "sum", "table"]
@@ -137,13 +140,13 @@ def main(flag=""):
         cases = file.read().splitlines()
     with open(f"{FAULTS}/stdout", encoding="utf-8") as file:
         lines = file.read().splitlines()
-    # (the cases that show graphs stand last, and are told by several lines each)
-    cases = [it for it in cases if not it.startswith("graphs\t")]
-    lines, graphs = lines[: len(cases)], lines[len(cases) :]
+    # (the cases that show something else stand last, and a graph is told by several lines)
+    cases = [it for it in cases if it.partition("\t")[0] not in SHOWN]
+    lines, shown = lines[: len(cases)], lines[len(cases) :]
     made = [line_of(case) if line.startswith("accepted") else line for case, line in zip(cases, lines, strict=True)]
     if flag == "--write":
         with open(f"{FAULTS}/stdout", "w", encoding="utf-8") as file:
-            file.write("\n".join(made + graphs) + "\n")
+            file.write("\n".join(made + shown) + "\n")
         return 0
     for line in made:
         if line.startswith("accepted"):

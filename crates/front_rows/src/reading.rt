@@ -1,8 +1,4 @@
-//! Prints the expression of each constant on its input with names resolved, or which rule it breaks and where.
-//!
-//! It is the test of `cmm_typing::resolve` on texts, as data: `stdin` has a unit a line, and `stdout` the expressions of its constants with names
-//! resolved as docs/LANGUAGE.md says, worked out by hand: the width of a value or `bool`, and the expression. Names mean what `MEANINGS` says.
-#![tactic(auto)]
+//! The tree of a unit, and its constants with names resolved.
 
 ghost use Rattle.cmm_typing.specs.Fitting.{AreWords};
 ghost use Rattle.cmm_typing.specs.Meanings.{senses_of};
@@ -36,18 +32,17 @@ const MEANINGS: [(&str, Meaning); 12] = [
     ("loop", Meaning::CodeLabel),
 ];
 
-fn main(rt: HostRuntime) -> io::Result<()> {
-    let scope = scope(rt.alloc())?;
-    if !scope.fits() {
-        return println!(rt; "a constant does not fit its width");
-    }
-    for line in rt.lines(rt.alloc()) {
-        print_unit(&rt, &scope, line?.as_str())?;
-    }
-    Ok(())
+/// What is printed of a unit.
+#[derive(Clone, Copy)]
+pub(crate) enum Read {
+    /// Its tree.
+    Tree,
+    /// What each of its constants is resolved to.
+    Constants,
 }
 
-fn scope(alloc: Global) -> Result<Scope, AllocError> {
+/// The names of `MEANINGS`.
+pub(crate) fn scope(alloc: Global) -> Result<Scope, AllocError> {
     let mut names = Items::new(alloc);
     for (name, meaning) in &MEANINGS {
         names.push((Name::from_slice(alloc, name.as_bytes())?, *meaning))?;
@@ -55,8 +50,13 @@ fn scope(alloc: Global) -> Result<Scope, AllocError> {
     Ok(Scope { names })
 }
 
-/// Prints what the constants of a unit are resolved to, or why a text is none.
-fn print_unit(rt: &(impl AllocGlobal + Print), scope: &Scope, text: &str) -> io::Result<()>
+/// Prints what is read of a unit, or why a text is none.
+pub(crate) fn print_unit(
+    rt: &(impl AllocGlobal + Print),
+    scope: &Scope,
+    text: &str,
+    read: Read,
+) -> io::Result<()>
     requires { AreWords (senses_of scope.now.names) }
 {
     let tokens = match lex(rt.alloc(), text.as_bytes()) {
@@ -65,7 +65,10 @@ fn print_unit(rt: &(impl AllocGlobal + Print), scope: &Scope, text: &str) -> io:
         Err(fault) => return println!(rt; "{fault}"),
     };
     match parse(rt.alloc(), &tokens) {
-        Ok(unit) => print_constants(rt, scope, &unit),
+        Ok(unit) => match read {
+            Read::Tree => println!(rt; "{:?}", unit.parts),
+            Read::Constants => print_constants(rt, scope, &unit),
+        },
         Err(fault) => println!(rt; "{fault}"),
     }
 }
