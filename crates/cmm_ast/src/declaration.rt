@@ -64,14 +64,14 @@ pub struct Export {
 }
 
 /// A property of the target machine.
-#[derive(Clone, Copy, Debug, PartialEq, Eq)]
+#[derive(Clone, Copy, Debug)]
 pub struct Property {
     pub token: u32,
     pub form: PropertyForm,
 }
 
 /// What a property says.
-#[derive(Clone, Copy, Debug, PartialEq, Eq)]
+#[derive(Clone, Copy, Debug)]
 pub enum PropertyForm {
     Memsize(Int),
     Byteorder(ByteOrder),
@@ -80,7 +80,7 @@ pub enum PropertyForm {
 }
 
 /// The order of the bytes of a word.
-#[derive(Clone, Copy, Debug, PartialEq, Eq)]
+#[derive(Clone, Copy, Debug)]
 pub enum ByteOrder {
     Little,
     Big,

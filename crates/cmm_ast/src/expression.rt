@@ -22,7 +22,7 @@ pub enum TypeForm {
 }
 
 /// What a literal says.
-#[derive(Clone, Copy, Debug, PartialEq, Eq)]
+#[derive(Clone, Copy, Debug)]
 pub enum Number {
     Int(u64),
     /// The byte of a character.
@@ -30,7 +30,7 @@ pub enum Number {
 }
 
 /// An operator between two operands.
-#[derive(Clone, Copy, Debug, PartialEq, Eq)]
+#[derive(Clone, Copy, Debug)]
 pub enum Infix {
     Eq,
     Ne,
@@ -51,7 +51,7 @@ pub enum Infix {
 }
 
 /// An operator before its operand.
-#[derive(Clone, Copy, Debug, PartialEq, Eq)]
+#[derive(Clone, Copy, Debug)]
 pub enum Prefix {
     /// `-`
     Negate,

@@ -32,7 +32,7 @@ impl fmt::Debug for Text {
 }
 
 /// A whole number where it stands.
-#[derive(Clone, Copy, Debug, PartialEq, Eq)]
+#[derive(Clone, Copy, Debug)]
 pub struct Int {
     pub value: u64,
     /// The number of its token in the unit, from 0.

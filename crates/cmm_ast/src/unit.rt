@@ -8,7 +8,7 @@ use crate::token::{Ident, Int, Text};
 use cmm_items::Items;
 
 /// A unit.
-#[derive(Debug, Drop)]
+#[derive(Drop)]
 pub struct Unit {
     pub parts: Items<TopLevel>,
     /// Where each of its tokens stands, and the end of the unit after them.
@@ -16,7 +16,7 @@ pub struct Unit {
 }
 
 /// Where a token stands.
-#[derive(Clone, Copy, Debug, PartialEq, Eq)]
+#[derive(Clone, Copy)]
 pub struct Place {
     /// The line of its first byte, from 1.
     pub line: u32,

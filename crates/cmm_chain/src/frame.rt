@@ -3,7 +3,7 @@
 use cmm_items::Items;
 
 /// Where an activation keeps a local.
-#[derive(Clone, Copy, Debug, PartialEq, Eq)]
+#[derive(Clone, Copy, PartialEq, Eq)]
 pub enum Location {
     /// In the 8 bytes at an offset of its frame, a multiple of 8.
     Slot(u32),
@@ -14,7 +14,7 @@ pub enum Location {
 }
 
 /// How the frames of a procedure are laid out. Offsets and sizes are in bytes, from the frame's address.
-#[derive(Debug, Drop)]
+#[derive(Drop)]
 pub struct Frame {
     pub size: u32,
     /// Where the return address is saved.

@@ -7,7 +7,7 @@ use cmm_rules::Rule;
 use cmm_walk::Activation;
 
 /// What a client looks at.
-#[derive(Clone, Copy, PartialEq, Eq)]
+#[derive(Clone, Copy)]
 pub struct Cursor {
     /// The activation at which it stands, if there is one.
     pub activation: Option<Activation>,

@@ -22,7 +22,7 @@ use cmm_script::{Command, Script};
 use cmm_walk::{Torn, youngest};
 
 /// How the client leaves a program.
-#[derive(Clone, Copy, PartialEq, Eq)]
+#[derive(Clone, Copy)]
 pub enum Left {
     /// It goes on.
     Running,

@@ -9,7 +9,7 @@ pub const USUAL_STEPS: u64 = 1_000_000_000;
 pub const USUAL_STACK: u64 = 1 << 20;
 
 /// How far a run may go.
-#[derive(Clone, Copy, Debug, PartialEq, Eq)]
+#[derive(Clone, Copy, Debug)]
 pub struct RunLimits {
     /// How many steps a run makes at most.
     pub steps: u64,

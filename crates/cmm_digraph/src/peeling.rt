@@ -10,7 +10,7 @@ use cmm_items::Items;
 use std::alloc::{AllocError, Global};
 
 /// The nodes of a graph, each once.
-#[derive(Debug, Drop)]
+#[derive(Drop)]
 pub struct Peeled {
     /// In an order in which each node mentions only nodes that come before it.
     pub order: Items<usize>,

@@ -14,7 +14,7 @@ use cmm_items::Items;
 use std::alloc::{AllocError, Global};
 
 /// How far a search has come with a node.
-#[derive(Clone, Copy, Debug)]
+#[derive(Clone, Copy)]
 pub(crate) enum State {
     /// It has not been found.
     New,
@@ -25,7 +25,7 @@ pub(crate) enum State {
 }
 
 /// What a search has to do.
-#[derive(Clone, Copy, Debug)]
+#[derive(Clone, Copy)]
 pub(crate) enum Step {
     /// To look at a node.
     Enter(usize),

@@ -6,7 +6,7 @@ use cmm_rules::Rule;
 use std::alloc::{AllocError, AllocFailed};
 
 /// A rule that is broken, and how many bytes are left from the first byte of the field that breaks it.
-#[derive(Clone, Copy, PartialEq, Eq)]
+#[derive(Clone, Copy)]
 pub struct Broken {
     pub rule: Rule,
     pub left: usize,

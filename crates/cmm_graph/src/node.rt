@@ -27,7 +27,7 @@ pub struct Arm {
 }
 
 /// A foreign call.
-#[derive(Clone, Copy, PartialEq, Eq)]
+#[derive(Clone, Copy)]
 pub enum HostCall {
     /// Writes the low byte of a value to the output.
     PutByte(Operand),

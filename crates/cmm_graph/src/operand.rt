@@ -6,14 +6,14 @@ use cmm_words::{Cmp, Constant, Op1, Op2, Width};
 
 /// What the nodes of one activation read and write, and what is given a place: a variable of the procedure or a
 /// temporary.
-#[derive(Clone, Copy, Debug, PartialEq, Eq)]
+#[derive(Clone, Copy, Debug)]
 pub enum Local {
     Variable(Variable),
     Temporary(Temporary),
 }
 
 /// What a node needs, as a word.
-#[derive(Clone, Copy, PartialEq, Eq)]
+#[derive(Clone, Copy)]
 pub enum Operand {
     /// A number, or the address of a procedure or of a data label with a number of bytes added.
     Constant(Constant),
@@ -26,14 +26,14 @@ pub enum Operand {
 }
 
 /// A word that is passed, with its width.
-#[derive(Clone, Copy, PartialEq, Eq)]
+#[derive(Clone, Copy)]
 pub struct Argument {
     pub width: Width,
     pub value: Operand,
 }
 
 /// A comparison of two words of a width.
-#[derive(Clone, Copy, PartialEq, Eq)]
+#[derive(Clone, Copy)]
 pub struct Comparison {
     pub operator: Cmp,
     pub width: Width,
@@ -42,7 +42,7 @@ pub struct Comparison {
 }
 
 /// What an assignment computes: the value of one operator, or what is read once.
-#[derive(Clone, Copy, PartialEq, Eq)]
+#[derive(Clone, Copy)]
 pub enum Rvalue {
     /// The value of an operand.
     Copy(Operand),
@@ -84,7 +84,7 @@ pub enum Rvalue {
 }
 
 /// What an assignment assigns to: a variable or a global register of the program, or a temporary.
-#[derive(Clone, Copy, PartialEq, Eq)]
+#[derive(Clone, Copy)]
 pub enum Destination {
     Target(Target),
     Temporary(Temporary),

@@ -21,7 +21,7 @@ const FIRST_VERSION: u32 = 1;
 const PROCEDURE_COUNT_LIMIT: u32 = 65_535;
 
 /// The header: the lengths, addresses and counts of what follows.
-#[derive(Clone, Copy, PartialEq, Eq)]
+#[derive(Clone, Copy)]
 pub(crate) struct Header {
     /// The version of the format.
     pub(crate) version: u32,
@@ -42,7 +42,7 @@ pub(crate) struct Header {
 }
 
 /// The counts of the records, and which procedure is main.
-#[derive(Clone, Copy, PartialEq, Eq)]
+#[derive(Clone, Copy)]
 pub(crate) struct RowCounts {
     pub(crate) procedures: u32,
     pub(crate) sites: u32,

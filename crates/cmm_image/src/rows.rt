@@ -4,15 +4,15 @@ use cmm_items::Items;
 use cmm_words::{Name, Width};
 
 /// The number of a variable of a procedure, formals first.
-#[derive(Clone, Copy, PartialEq, Eq)]
+#[derive(Clone, Copy)]
 pub struct VariableNumber(pub u16);
 
 /// The number of a continuation of a procedure, in textual order.
-#[derive(Clone, Copy, PartialEq, Eq)]
+#[derive(Clone, Copy)]
 pub struct ContinuationNumber(pub u16);
 
 /// A callee-saves register that a procedure saves at entry.
-#[derive(Clone, Copy, PartialEq, Eq)]
+#[derive(Clone, Copy)]
 pub struct SavedRegister {
     /// Its number: 9, or 18 to 27.
     pub register: u8,
@@ -21,7 +21,7 @@ pub struct SavedRegister {
 }
 
 /// A stackdata label of a procedure.
-#[derive(Clone, Copy, PartialEq, Eq)]
+#[derive(Clone, Copy)]
 pub struct StackLabelRow {
     /// How far into the frame it lies.
     pub offset: u32,
@@ -67,7 +67,7 @@ pub struct ProcRow {
 }
 
 /// An unwind exit of a site.
-#[derive(Clone, Copy, PartialEq, Eq)]
+#[derive(Clone, Copy)]
 pub struct UnwindRow {
     pub continuation: ContinuationNumber,
     /// The address of the code at which unwinding goes on.
@@ -75,7 +75,7 @@ pub struct UnwindRow {
 }
 
 /// Where a variable is kept while its activation is suspended at a site.
-#[derive(Clone, Copy, PartialEq, Eq)]
+#[derive(Clone, Copy)]
 pub enum VariablePlace {
     /// Nowhere: no exit of the site leads to a read of it.
     Dead,
@@ -86,7 +86,7 @@ pub enum VariablePlace {
 }
 
 /// What the innermost span with a token gives the site.
-#[derive(Clone, Copy, PartialEq, Eq)]
+#[derive(Clone, Copy)]
 pub struct SpanRow {
     pub token: u64,
     pub value: u64,

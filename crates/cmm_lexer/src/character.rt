@@ -4,7 +4,7 @@ ghost use Rattle.std.specs.Prelude.{◌≡◌, ◌+◌, ◌≤◌, ◌<◌, IfSo
 ghost use Rattle.cmm_lexer.specs.Characters.{escaped as escaped_of, hex_pair as hex_pair_of, escape_at, character_at as character_in};
 
 /// A character: the byte that it stands for, and how many bytes spell it.
-#[derive(Clone, Copy, Debug, PartialEq, Eq)]
+#[derive(Clone, Copy)]
 pub struct Character {
     pub value: u8,
     pub len: usize,

@@ -7,7 +7,7 @@ use crate::keyword::Keyword;
 use crate::symbol::Symbol;
 
 /// What a token is. A `u32` is the number of its spelling, which `Tokens::spelling` gives.
-#[derive(Clone, Copy, Debug, PartialEq, Eq)]
+#[derive(Clone, Copy, Debug)]
 pub enum TokenKind {
     Name(u32),
     Int(u64),

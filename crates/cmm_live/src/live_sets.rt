@@ -13,7 +13,7 @@ use cmm_items::Items;
 use std::alloc::{AllocError, Global};
 
 /// Which locals of a graph are live where. A set has the numbers that `number_of` gives to locals.
-#[derive(Debug, Drop)]
+#[derive(Drop)]
 pub struct LiveSets {
     /// Before each node.
     pub before: Items<BitSet>,

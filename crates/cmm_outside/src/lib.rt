@@ -39,5 +39,5 @@ pub use standard::{StdFiles, StdSink, StdSource};
 pub use storage::{CallKind, FileError, Files, read_file, write_file};
 
 /// A call on something outside has failed. What failed is the object's to know.
-#[derive(Clone, Copy, Debug, PartialEq, Eq)]
+#[derive(Clone, Copy, Debug)]
 pub struct Failed;

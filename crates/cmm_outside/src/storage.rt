@@ -16,7 +16,7 @@ pub const NAME_LIMIT: usize = 4095;
 const PIECE: usize = 4096;
 
 /// What a call of `Files` does.
-#[derive(Clone, Copy, Debug, PartialEq, Eq)]
+#[derive(Clone, Copy)]
 pub enum CallKind {
     Read,
     Create,

@@ -19,7 +19,7 @@ pub enum SyntaxFault {
 }
 
 /// Why a part is not parsed, at the token with this number.
-#[derive(Debug, Drop)]
+#[derive(Drop)]
 pub(crate) enum Stop {
     /// Nothing goes on with it.
     Unexpected(u32),

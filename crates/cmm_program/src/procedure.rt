@@ -5,7 +5,7 @@ use cmm_items::Items;
 use cmm_words::{Constant, Name, Width};
 
 /// A variable or a global register that takes a value, by its number, with its width.
-#[derive(Clone, Copy, PartialEq, Eq)]
+#[derive(Clone, Copy)]
 pub enum Target {
     Variable(u32, Width),
     Register(u32, Width),
@@ -23,7 +23,7 @@ pub struct VarInfo {
 
 /// An item of stackdata. An item of length 0 with `label` set is a stackdata label; one of length 0 without is an
 /// alignment.
-#[derive(Clone, Copy, PartialEq, Eq)]
+#[derive(Clone, Copy)]
 pub struct StackItem {
     /// In bytes.
     pub align: u32,

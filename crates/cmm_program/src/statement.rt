@@ -19,7 +19,7 @@ pub enum Lvalue {
 }
 
 /// The values from `from` to `to`, both included.
-#[derive(Clone, Copy, PartialEq, Eq)]
+#[derive(Clone, Copy)]
 pub struct Range {
     pub from: u64,
     pub to: u64,

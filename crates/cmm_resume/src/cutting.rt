@@ -23,7 +23,7 @@ use rv_memory::Memory;
 use rv_table::Regs;
 
 /// Where control goes at a cut.
-#[derive(Clone, Copy, PartialEq, Eq)]
+#[derive(Clone, Copy)]
 pub struct CutTarget {
     /// The address of the frame of the activation that goes on.
     pub frame: u64,

@@ -6,7 +6,7 @@ use cmm_rules::Rule;
 use cmm_walk::Torn;
 
 /// Why a change is refused. Nothing was changed.
-#[derive(Clone, Copy, PartialEq, Eq)]
+#[derive(Clone, Copy)]
 pub enum Refusal {
     /// This rule refuses it.
     ByRule(Rule),

@@ -8,7 +8,7 @@ use std::fmt;
 /// A rule, with the place that a message names where it is broken, as `LINE:COLUMN` of a unit, as the offset of a byte
 /// of an image, a snapshot or an ELF file, or as a line of a script. A command
 /// that a client's rule refuses has no place.
-#[derive(Clone, Copy, Debug, PartialEq, Eq)]
+#[derive(Clone, Copy, Debug)]
 pub enum Rule {
     /// 1. A byte begins no token: at the byte.
     BadByte,
@@ -143,7 +143,7 @@ pub enum Rule {
 }
 
 /// When a rule is tested: of a unit the first three phases one after another, each for all units before the next.
-#[derive(Clone, Copy, Debug, PartialEq, Eq)]
+#[derive(Clone, Copy, Debug)]
 pub enum Phase {
     /// The form of tokens: rules 1 to 5.
     Lexical,

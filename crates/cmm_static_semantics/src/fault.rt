@@ -3,7 +3,7 @@
 use cmm_rules::Rule;
 
 /// A static rule that units break, and where.
-#[derive(Clone, Copy, Debug, PartialEq, Eq)]
+#[derive(Clone, Copy, Debug)]
 pub struct Fault {
     pub rule: Rule,
     /// The number of the unit, from 0.

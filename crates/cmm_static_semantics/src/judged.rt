@@ -3,7 +3,7 @@
 use cmm_words::Width;
 
 /// Bits of a width.
-#[derive(Drop, PartialEq, Eq)]
+#[derive(Drop)]
 pub struct Bits<E> {
     pub width: Width,
     /// What stands for the value. Where it depends on a constant that is broken elsewhere there is nothing.
@@ -11,14 +11,14 @@ pub struct Bits<E> {
 }
 
 /// Bits or a condition, with what stands for them.
-#[derive(Drop, PartialEq, Eq)]
+#[derive(Drop)]
 pub enum Typed<E, C> {
     Bits(Bits<E>),
     Test(Option<C>),
 }
 
 /// An operand.
-#[derive(Drop, PartialEq, Eq)]
+#[derive(Drop)]
 pub struct Operand<E, C> {
     /// The number of its first token.
     pub token: u32,
@@ -26,7 +26,7 @@ pub struct Operand<E, C> {
 }
 
 /// The operands of an operator, as far as any operator takes them.
-#[derive(Drop, PartialEq, Eq)]
+#[derive(Drop)]
 pub enum Operands<E, C> {
     Zero,
     One(Operand<E, C>),

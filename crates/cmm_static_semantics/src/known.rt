@@ -3,7 +3,7 @@
 use cmm_words::Constant;
 
 /// What is known of a value before the program runs.
-#[derive(Clone, Copy, PartialEq, Eq)]
+#[derive(Clone, Copy)]
 pub enum Known {
     /// It is this number.
     Number(u64),

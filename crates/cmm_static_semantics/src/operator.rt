@@ -3,7 +3,7 @@
 use cmm_words::{Cmp, Op1, Op2, Width};
 
 /// What an operator does, whether it is written by its name or by a sign.
-#[derive(Clone, Copy, PartialEq, Eq)]
+#[derive(Clone, Copy)]
 pub enum Operator {
     Unary(Op1),
     Binary(Op2),

@@ -6,7 +6,7 @@ ghost use Rattle.cmm_static_semantics.specs.Senses.{target_width};
 use cmm_words::{Constant, Width};
 
 /// A procedure of the host, whose name every unit has.
-#[derive(Clone, Copy, PartialEq, Eq)]
+#[derive(Clone, Copy)]
 pub enum Host {
     /// `yield`, which enters the run-time system.
     Yield,
@@ -18,7 +18,7 @@ pub enum Host {
 
 /// What a name means. Where its declaration breaks a rule, a width or a value may be absent: what is said of its uses then depends
 /// on neither.
-#[derive(Clone, Copy, PartialEq, Eq)]
+#[derive(Clone, Copy)]
 pub enum Sense {
     /// A variable of the procedure, by its number.
     Variable(u32, Option<Width>),

@@ -6,7 +6,7 @@ ghost use Rattle.cmm_static_semantics.specs.Spots.{comes_before, sooner};
 use cmm_rules::Rule;
 
 /// A rule that is broken, and where in a unit.
-#[derive(Clone, Copy, PartialEq, Eq)]
+#[derive(Clone, Copy)]
 pub struct Spot {
     /// The number of the token at which it is broken, from 0.
     pub token: u32,

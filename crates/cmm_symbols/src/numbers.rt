@@ -9,7 +9,7 @@ use cmm_ast::{DatumForm, Item};
 use std::alloc::AllocError;
 
 /// How many procedures and data labels stand before something: the numbers of the next ones.
-#[derive(Clone, Copy, PartialEq, Eq)]
+#[derive(Clone, Copy)]
 pub struct Numbers {
     pub procedures: u32,
     pub labels: u32,

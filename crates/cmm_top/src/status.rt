@@ -6,7 +6,7 @@ use cmm_image::Image;
 use cmm_run::Outcome;
 
 /// How a call ended.
-#[derive(Clone, Copy, Debug, PartialEq, Eq)]
+#[derive(Clone, Copy)]
 pub enum Status {
     /// The work was done: of a run, the program has returned.
     Done,

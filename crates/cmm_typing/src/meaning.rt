@@ -3,7 +3,7 @@
 use cmm_words::{Constant, Width};
 
 /// What a name means.
-#[derive(Clone, Copy, Debug, PartialEq, Eq)]
+#[derive(Clone, Copy)]
 pub enum Meaning {
     /// A variable of the procedure, by its number.
     Variable(u32, Width),
@@ -24,7 +24,7 @@ pub enum Meaning {
 }
 
 /// The type of an expression.
-#[derive(Clone, Copy, Debug, PartialEq, Eq)]
+#[derive(Clone, Copy)]
 pub enum ExprType {
     /// Bits of this width.
     Bits(Width),

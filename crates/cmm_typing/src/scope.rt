@@ -19,7 +19,7 @@ use cmm_static_semantics::{Host, Known, Sense, Spot, Typed};
 use cmm_words::{Constant, Name};
 
 /// Names with what they mean. The last entry of a name counts.
-#[derive(Debug, Drop)]
+#[derive(Drop)]
 pub struct Scope {
     pub names: Items<(Name, Meaning)>,
 }

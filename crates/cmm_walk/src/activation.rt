@@ -6,7 +6,7 @@ ghost use Rattle.cmm_walk.specs.Activations.{order_of as order_in, place_of, pla
 use crate::place::Place;
 
 /// Where the value is now that a callee-saves register had in an activation.
-#[derive(Clone, Copy, PartialEq, Eq)]
+#[derive(Clone, Copy)]
 pub enum Kept {
     /// In the register itself.
     InRegister,
@@ -15,7 +15,7 @@ pub enum Kept {
 }
 
 /// A suspended activation.
-#[derive(Clone, Copy, PartialEq, Eq)]
+#[derive(Clone, Copy)]
 pub struct Activation {
     /// The address of its frame.
     pub frame: u64,

@@ -10,7 +10,7 @@ use rv_memory::Memory;
 use rv_table::Regs;
 
 /// The 8 bytes that a word is kept in.
-#[derive(Clone, Copy, PartialEq, Eq)]
+#[derive(Clone, Copy)]
 pub enum Place {
     /// Those of the register of this number.
     InRegister(u8),

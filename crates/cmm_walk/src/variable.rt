@@ -21,7 +21,7 @@ use rv_memory::Memory;
 use rv_table::Regs;
 
 /// A variable of a suspended activation.
-#[derive(Clone, Copy, PartialEq, Eq)]
+#[derive(Clone, Copy)]
 pub enum Var {
     /// No exit of the site leads to a read of it.
     Dead,
@@ -30,7 +30,7 @@ pub enum Var {
 }
 
 /// The procedure has no variable of the number.
-#[derive(Clone, Copy, PartialEq, Eq)]
+#[derive(Clone, Copy)]
 pub struct NoVar;
 
 /// What the innermost span with a token gives the site of an activation; 0 where no span has the token.

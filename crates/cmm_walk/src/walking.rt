@@ -12,7 +12,7 @@ use rv_memory::Memory;
 use rv_table::Regs;
 
 /// Why a walk was not written whole.
-#[derive(Clone, Copy, PartialEq, Eq)]
+#[derive(Clone, Copy)]
 pub enum WalkError {
     /// The chain of frames breaks here. The activations before are written.
     Torn(Torn),

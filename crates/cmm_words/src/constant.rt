@@ -6,7 +6,7 @@ ghost use Rattle.cmm_words.specs.Constants.{Fits};
 use crate::width::Width;
 
 /// A value that is known when a program is linked.
-#[derive(Clone, Copy, Debug, PartialEq, Eq)]
+#[derive(Clone, Copy, Debug)]
 pub enum Constant {
     /// A word of this width.
     Number(u64, Width),

@@ -7,7 +7,7 @@ ghost use Rattle.std.specs.Option.{SomeIff};
 ghost use Rattle.cmm_words.specs.Digits.{base as base_of, sum_of, written};
 
 /// In which base a number is written.
-#[derive(Clone, Copy, Debug, PartialEq, Eq)]
+#[derive(Clone, Copy)]
 pub enum Radix {
     Octal,
     Decimal,

@@ -1,7 +1,7 @@
 //! The names of the word operators (C-- Language Specification 2.0, the table of primitive operators).
 
 /// An operator with one operand.
-#[derive(Clone, Copy, Debug, PartialEq, Eq)]
+#[derive(Clone, Copy, Debug)]
 pub enum Op1 {
     /// The complement: each bit turned.
     Com,
@@ -10,7 +10,7 @@ pub enum Op1 {
 }
 
 /// An operator with two operands.
-#[derive(Clone, Copy, Debug, PartialEq, Eq)]
+#[derive(Clone, Copy, Debug)]
 pub enum Op2 {
     Add,
     Sub,
@@ -41,7 +41,7 @@ pub enum Op2 {
 }
 
 /// A comparison of two words: signed, or unsigned where the name ends in `u`.
-#[derive(Clone, Copy, Debug, PartialEq, Eq)]
+#[derive(Clone, Copy, Debug)]
 pub enum Cmp {
     Eq,
     Ne,

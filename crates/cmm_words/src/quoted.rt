@@ -4,7 +4,7 @@ use std::fmt;
 
 /// Bytes that print as a text literal: between quotes, a quote and a backslash after a backslash, a byte that is no printable character
 /// of ASCII as `\x` and two hexadecimal digits.
-#[derive(Clone, Copy, PartialEq, Eq)]
+#[derive(Clone, Copy)]
 pub struct Quoted<'a>(pub &'a [u8]);
 
 impl fmt::Debug for Quoted<'_> {

@@ -4,7 +4,7 @@ ghost use Rattle.std.specs.Prelude.{◌≡◌, ◌≢◌, ◌-◌, ◌^◌, IfSo
 ghost use Rattle.cmm_words.specs.Widths.{bits, bytes};
 
 /// How many bits a word has: 8, 16, 32 or 64.
-#[derive(Clone, Copy, Debug, PartialEq, Eq)]
+#[derive(Clone, Copy, Debug)]
 pub enum Width {
     W8,
     W16,

@@ -26,7 +26,7 @@ const LIMIT: Label = Label { number: 3 };
 const MARK: u8 = 28;
 
 /// Where the words of a frame lie that is called.
-#[derive(Clone, Copy, Debug, PartialEq, Eq)]
+#[derive(Clone, Copy)]
 pub enum Layout {
     /// There is no stackdata.
     Small,

@@ -16,7 +16,7 @@ use std::alloc::{AllocError, Global};
 const STEPS: u32 = 100_000;
 
 /// Registers and memory, and how many bytes of code there are.
-#[derive(Debug, Drop)]
+#[derive(Drop)]
 pub struct Machine {
     pub registers: Regs,
     pub memory: Memory,

@@ -22,7 +22,7 @@ const THEN: Label = Label { number: 3 };
 const END: Label = Label { number: 4 };
 
 /// A node on a left and a right operand, with a destination.
-#[derive(Clone, Copy, Debug)]
+#[derive(Clone, Copy)]
 pub enum Node {
     Binary(Op2, Width),
     Comparison(Cmp, Width),

@@ -11,7 +11,7 @@ use cmm_select::{Destination, Operand, Source};
 use rv_asm::Label;
 
 /// What a place is for.
-#[derive(Clone, Copy, Debug, PartialEq, Eq)]
+#[derive(Clone, Copy)]
 pub enum Purpose {
     Left,
     Right,
@@ -19,7 +19,7 @@ pub enum Purpose {
 }
 
 /// The kinds of places.
-#[derive(Clone, Copy, Debug, PartialEq, Eq)]
+#[derive(Clone, Copy)]
 pub enum PlaceKind {
     /// A slot that an immediate reaches.
     Near,
@@ -32,7 +32,7 @@ pub enum PlaceKind {
 }
 
 /// The kinds of operands.
-#[derive(Clone, Copy, Debug, PartialEq, Eq)]
+#[derive(Clone, Copy)]
 pub enum OperandKind {
     Place(PlaceKind),
     Number,
@@ -41,7 +41,7 @@ pub enum OperandKind {
 }
 
 /// The kinds of destinations.
-#[derive(Clone, Copy, Debug, PartialEq, Eq)]
+#[derive(Clone, Copy)]
 pub enum DestinationKind {
     Place(PlaceKind),
     Global,

@@ -23,7 +23,7 @@ const STACK: u32 = 8192;
 const SHOWN: u64 = 16;
 
 /// The operands and the destination of a node.
-#[derive(Clone, Copy, Debug)]
+#[derive(Clone, Copy)]
 pub struct Kinds {
     pub left: OperandKind,
     pub right: OperandKind,

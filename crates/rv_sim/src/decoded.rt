@@ -14,7 +14,7 @@ use std::alloc::Global;
 use std::marker::Model;
 
 /// The instructions of code by their words, in the code's order; none for a word that is no instruction.
-#[derive(Debug, Drop)]
+#[derive(Drop)]
 pub struct Decoded {
     table: Vec<Option<Instr>>,
 }

@@ -8,7 +8,7 @@ pub const FRAME: u8 = 2;
 pub const REGION: u8 = 4;
 
 /// The 32 registers and the program counter.
-#[derive(Clone, Copy, Debug, PartialEq, Eq)]
+#[derive(Clone, Copy)]
 pub struct Regs {
     /// The registers' values by number. Register 0 reads as 0 whatever stands here, and no instruction changes it.
     pub x: [u64; 32],
