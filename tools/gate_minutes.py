@@ -3,8 +3,9 @@
 
 Usage, at the top of the repository: tools/gate_minutes.py [NAME..], which runs `rt ci NAME..` and prints the table after the lines of that. With `--anew`
 alone, which proves all, it writes the table into docs/CONTRIBUTING.md, between its two marks, with the sum and the budget below: what an earlier run on this
-machine has kept takes no time, so a run without it tells nothing of the whole. The figures are of processor time, which other work on the machine lengthens
-too, up to twice. `--sum` runs nothing, and prints the sum of the table that stands.
+machine has kept takes no time, so a run without it tells nothing of the whole. `--first` does so too, for a clean clone on a machine that has kept nothing: it
+runs `./cmm exec` of an example first, which proves and builds the program, and then `rt ci`, which takes up what that has proved, and tells how long each took.
+The figures are of processor time, which other work on the machine lengthens too, up to twice. `--sum` runs nothing, and prints the sum of the table that stands.
 """
 
 import os
@@ -53,9 +54,10 @@ def below(root, found):
             yield process
 
 
-def sampled(words):
-    """The status of `rt ci` with these words, and the processor minutes of each crate by sort."""
-    gate = subprocess.Popen(["rt", "ci", *words])
+def sampled(command, table):
+    """The status of a command, and the minutes that it took; the processor minutes of each crate are added to its row of the table, by sort."""
+    begun = time.monotonic()
+    gate = subprocess.Popen(command)
     spent = {}
     while gate.poll() is None:
         for number, _, seconds, folder, given in below(gate.pid, list(processes())):
@@ -63,11 +65,10 @@ def sampled(words):
                 crate = given[given.index("--crate-name") + 1]
                 spent[number, crate, sort_of(folder, given)] = seconds
         time.sleep(1)
-    table = {}
     for (_, crate, sort), seconds in spent.items():
         row = table.setdefault(crate, dict.fromkeys(SORTS, 0))
         row[sort] += seconds / 60
-    return gate.returncode, table
+    return gate.returncode, (time.monotonic() - begun) / 60
 
 
 def lines_of(table):
@@ -101,9 +102,14 @@ def main(words):
     if words == ["--sum"]:
         print(lines_of(standing(text))[-1])
         return 0
-    status, table = sampled(words)
+    table = {}
+    if words == ["--first"]:
+        status, took = sampled(["./cmm", "exec", "examples/sum.cmm"], table)
+        print(f"the first ./cmm exec: {took:.0f} minutes, status {status}, load {os.getloadavg()[2]:.1f}", flush=True)
+    status, took = sampled(["rt", "ci", *(word for word in words if word != "--first")], table)
+    print(f"rt ci: {took:.0f} minutes, status {status}, load {os.getloadavg()[2]:.1f}")
     print("\n".join(lines_of(table)))
-    if words == ["--anew"] and status == 0:
+    if words in (["--anew"], ["--first"]) and status == 0:
         with open(PAGE, "w", encoding="utf-8") as page:
             page.write(written(text, lines_of(table)))
     return status
