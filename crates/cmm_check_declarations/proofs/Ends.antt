@@ -49,7 +49,7 @@ end_append place (p ∷ ps) qs = end_append (aligned_up p.align place + p.length
 one_grows : (place : ℕ) (p : Piece) → 0 < p.align → place ≤ end_of place (p ∷ [])
 one_grows place p aligned = omega (arith, aligned_up-grows p.align place aligned)
 
-aligned_by : (b : Bool) (k : ℕ) → is_alignment k ≡ b → 0 < elim b [ true ↦ k | false ↦ 1 ]
+pub aligned_by : (b : Bool) (k : ℕ) → is_alignment k ≡ b → 0 < elim b [ true ↦ k | false ↦ 1 ]
 aligned_by true zero is = absurd cc
 aligned_by true (suc k) is = omega arith
 aligned_by false k is = omega arith

@@ -7,9 +7,13 @@ use Rattle.cmm_program.specs.Limits.{data_limit}
 use Rattle.cmm_static_semantics.specs.Senses.{Senses}
 use Rattle.cmm_static_semantics.specs.Limits.{item_pieces}
 
--- the place at which pieces end, unless they end past the limit on the data of all units, 64 MiB
+-- the place at which pieces end that are laid from a place on, unless they end past a limit
+abbrev pub EndsWithin : ℕ → ℕ → List Piece → Option ℕ → Type 0
+EndsWithin limit place pieces r = SomeIff r (end_of place pieces ≤ limit) (end_of place pieces)
+
+-- the same for the limit on the data of all units, 64 MiB
 abbrev pub IsEnd : ℕ → List Piece → Option ℕ → Type 0
-IsEnd place pieces r = SomeIff r (end_of place pieces ≤ data_limit) (end_of place pieces)
+IsEnd = EndsWithin data_limit
 
 -- the data among what stands in a unit
 abbrev pub data_of : Senses → List Item → List Piece

@@ -1,2 +1,3 @@
 pub mod EntryFaults
 pub mod DataEnds
+pub mod Rooms

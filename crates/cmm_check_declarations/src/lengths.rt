@@ -3,6 +3,7 @@
 ghost use Rattle.std.specs.Prelude.{◌≡◌, ◌<◌, ◌≤◌, ◌∷◌, [], map};
 ghost use Rattle.cmm_static_semantics.specs.Limits as limits;
 ghost use Rattle.cmm_check_declarations.specs.DataEnds.{IsEnd, data_of};
+ghost use Rattle.cmm_check_declarations.specs.Rooms.{words_in};
 ghost use Rattle.cmm_symbols.specs.Shown.{thing_item};
 ghost use Rattle.cmm_typing.specs.Fitting.{AreWords};
 
@@ -43,13 +44,24 @@ pub fn data_count<N: Names>(names: &N, count: &Count, initial: &Initial) -> u64
     }
 }
 
+/// How many words a room of stackdata has: none where their number is broken.
+pub fn words_in<N: Names>(names: &N, count: &Option<Expr>) -> u64
+    requires { AreWords (N.senses names.now) }
+    ensures { result ≡ words_in (N.senses names.now) count.now }
+{
+    match count {
+        Some(e) => number_or_zero(names, e),
+        None => 1,
+    }
+}
+
 /// Where an alignment ends.
 fn after_alignment(alignment: &Int, place: u64) -> Option<u64>
     requires { place ≤ DATA_LIMIT }
     ensures { IsEnd place (limits.align_piece alignment.now.value ∷ []) result }
 {
     if is_alignment(alignment.value) {
-        laid(place, alignment.value, 1, 0)
+        laid(DATA_LIMIT, place, alignment.value, 1, 0)
     } else {
         Some(place)
     }
@@ -70,7 +82,7 @@ fn after_datum<N: Names>(names: &N, form: &DatumForm, place: u64) -> Option<u64>
             initial,
         } => {
             let size = bytes_of(names, width);
-            laid(place, size, size, data_count(names, count, initial))
+            laid(DATA_LIMIT, place, size, size, data_count(names, count, initial))
         }
     }
 }

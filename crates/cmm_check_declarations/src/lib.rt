@@ -6,7 +6,7 @@
 //!
 //! - `entries`: the types and values of typedefs, constants and registers; that they depend on themselves is told elsewhere.
 //! - `items`: imports, exports, data and spans. `data`: one datum.
-//! - `lengths`: how many words a datum has, and of how many bytes; where the data of a unit ends. `laying`: where one piece ends.
+//! - `lengths`: how many words a datum or a room of stackdata has, and of how many bytes; where the data of a unit ends. `laying`: where one piece ends.
 //! - `laws`: the faults of an entry are those that `entries` tells and that it depends on itself.
 #![tactic(auto)]
 
@@ -20,5 +20,5 @@ mod lengths;
 pub use entries::note_entries;
 pub use items::{note_item, note_items};
 pub use laws::entries_break_by_value_or_cycle;
-pub use laying::DATA_LIMIT;
-pub use lengths::{bytes_of, data_count, end_of_data};
+pub use laying::{DATA_LIMIT, laid};
+pub use lengths::{bytes_of, data_count, end_of_data, words_in};

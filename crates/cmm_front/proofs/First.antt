@@ -6,9 +6,9 @@ use Rattle.std.proofs.lemmas.List.{take_all}
 use Rattle.std.proofs.lemmas.List.Elements.{All-cons, All-head, All-nil, All-tail}
 use Rattle.cmm_static_semantics.specs.declared.fault.Fault.{Fault}
 use Rattle.cmm_static_semantics.specs.Faults.{first_fault}
-use Rattle.cmm_static.specs.Faults.{IsFaultOf as IsStaticFault}
-use Rattle.cmm_static.specs.declared.fault.StaticFault.{StaticFault}
-use Rattle.cmm_static.specs.declared.fault.StaticFault.TheVariants as static_fault
+use Rattle.cmm_check_units.specs.Faults.{IsFaultOf as IsStaticFault}
+use Rattle.cmm_check_units.specs.declared.fault.StaticFault.{StaticFault}
+use Rattle.cmm_check_units.specs.declared.fault.StaticFault.TheVariants as static_fault
 use Rattle.cmm_ast.specs.declared.unit.Unit.{Unit as UnitTree}
 use Rattle.cmm_lexer.specs.declared.tokens.Tokens.{Tokens}
 use Rattle.cmm_lexer.specs.Lexing.{Lexes}

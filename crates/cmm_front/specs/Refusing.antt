@@ -6,8 +6,8 @@ use Rattle.cmm_static_semantics.specs.Faults.{first_fault}
 use Rattle.cmm_ast.specs.declared.unit.Unit.{Unit as UnitTree}
 use Rattle.cmm_front.specs.declared.fault.FrontFault.{FrontFault}
 use Rattle.cmm_front.specs.declared.fault.FrontFault.TheVariants.{At, Memory}
-use Rattle.cmm_static.specs.declared.fault.StaticFault.{StaticFault}
-use Rattle.cmm_static.specs.declared.fault.StaticFault.TheVariants as static_fault
+use Rattle.cmm_check_units.specs.declared.fault.StaticFault.{StaticFault}
+use Rattle.cmm_check_units.specs.declared.fault.StaticFault.TheVariants as static_fault
 use Rattle.cmm_front.specs.Sources.{HasTokens, HasTree, IsLexicalFault, IsSyntaxFault, IsTreeOf}
 
 -- the fault is that of the first unit, counted from a number, that is not whole

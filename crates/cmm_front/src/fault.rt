@@ -2,7 +2,7 @@
 
 ghost use Rattle.std.specs.Prelude.{◌≡◌};
 
-use cmm_static::StaticFault;
+use cmm_check_units::StaticFault;
 use cmm_static_semantics::Fault;
 use std::alloc::{AllocError, AllocFailed};
 use thiserror::Error;

@@ -3,43 +3,21 @@ use Rattle.std.proofs.Common.{◌≡◌, ℕ, suc, ◌+◌, ◌<◌, ◌≤◌, 
 use Rattle.std.specs.Prelude.{zero, nat_le, is_some}
 use Rattle.std.specs.Option.{ForSome}
 use Rattle.std.proofs.lemmas.Bool.{le-leb, leb-true}
-use Rattle.cmm_words.specs.declared.width.Width.{Width}
-use Rattle.cmm_words.specs.declared.width.Width.TheVariants.{W8, W16, W32, W64}
-use Rattle.cmm_words.specs.Widths.{bytes}
-use Rattle.cmm_ast.specs.declared.expression.TypeName.{TypeName}
 use Rattle.cmm_ast.specs.declared.procedure.Room.{Room}
 use Rattle.cmm_ast.specs.declared.procedure.RoomForm.{RoomForm}
 use Rattle.cmm_ast.specs.declared.procedure.RoomForm.TheVariants as rooms
 use Rattle.cmm_program.specs.Layout.{end_of}
-use Rattle.cmm_program.specs.Typing.{is_alignment}
 use Rattle.cmm_program.proofs.Shared.{aligned_up-grows}
 use Rattle.cmm_rules.specs.declared.rule.Rule.TheVariants.{Limit}
 use Rattle.cmm_static_semantics.specs.declared.spot.Spot.{Spot}
 use Rattle.cmm_static_semantics.specs.Spots.{first_of, unless}
-use Rattle.cmm_static_semantics.specs.Senses.{Senses}
-use Rattle.cmm_static_semantics.specs.Judging.{if_ok}
 use Rattle.cmm_static_semantics.specs.Scopes.{Scope, types}
-use Rattle.cmm_static_semantics.specs.Typing.{type_width}
-use Rattle.cmm_static_semantics.specs.Limits.{bytes_of, room_piece, room_limits}
+use Rattle.cmm_static_semantics.specs.Limits.{room_piece, room_limits}
 use Rattle.cmm_symbols.proofs.Shared.{first_of_append}
+use Rattle.cmm_check_declarations.proofs.Shared.{aligned_by, bytes_bounds}
 use Rattle.cmm_limits.specs.inside.Ends.{IsWithin, form_piece}
 
 -- ---- sizes and alignments
-
-width_bounds : (o : Option Width) → (0 < elim o [ Some width ↦ bytes width | None ↦ 1 ]) × (elim o [ Some width ↦ bytes width | None ↦ 1 ] ≤ 16)
-width_bounds None = (omega arith, omega arith)
-width_bounds (Some W8) = (omega arith, omega arith)
-width_bounds (Some W16) = (omega arith, omega arith)
-width_bounds (Some W32) = (omega arith, omega arith)
-width_bounds (Some W64) = (omega arith, omega arith)
-
-pub bytes_bounds : (names : Senses) (t : TypeName) → (0 < bytes_of names t) × (bytes_of names t ≤ 16)
-bytes_bounds names t = width_bounds (if_ok (type_width names t))
-
-aligned_by : (b : Bool) (k : ℕ) → is_alignment k ≡ b → 0 < elim b [ true ↦ k | false ↦ 1 ]
-aligned_by true zero is = absurd cc
-aligned_by true (suc k) is = omega arith
-aligned_by false k is = omega arith
 
 form_aligned : (s : Scope) (f : RoomForm) → 0 < (form_piece s f).align
 form_aligned s (rooms.Label name) = omega arith

@@ -1,3 +1,2 @@
 pub mod Capped
-pub mod Rooms
 pub mod inside

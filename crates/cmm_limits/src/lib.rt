@@ -20,6 +20,5 @@ mod unit_variables;
 pub use limits::note_limits;
 pub use sites::site_count;
 pub use span_tokens::site_tokens;
-pub use stackdata::words_in;
 pub use unit_spans::site_spans;
 pub use unit_variables::{site_variables, variable_count};

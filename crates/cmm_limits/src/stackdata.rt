@@ -1,77 +1,28 @@
 //! Where the stackdata of a procedure ends. What is broken takes no room.
 #![tactic(auto, using(cmm_symbols::proofs::Shared::first_of_append))]
 
-ghost use Rattle.std.specs.Prelude.{◌≡◌, ◌*◌, ◌<◌, ◌≤◌, ◌∷◌, [], ℕ, nat_le, map};
+ghost use Rattle.std.specs.Prelude.{◌≡◌, ◌≤◌, ◌∷◌, [], ℕ, map};
 ghost use Rattle.std.specs.Option.{ForSome};
 ghost use Rattle.cmm_static_semantics.specs.Limits as limits;
 ghost use Rattle.cmm_static_semantics.specs.Scopes.{senses, types};
 ghost use Rattle.cmm_static_semantics.specs.Spots.{first_of, unless};
 ghost use Rattle.cmm_limits.specs.inside.Ends.{IsWithin, form_piece};
-ghost use Rattle.cmm_limits.specs.Rooms.{words_in};
-ghost use Rattle.cmm_program.specs.Layout.{aligned_up, end_of};
+ghost use Rattle.cmm_program.specs.Layout.{end_of};
 ghost use Rattle.cmm_program.specs.Limits.{stackdata_limit};
 ghost use Rattle.cmm_rules.specs.declared.rule.Rule.TheVariants.{Limit};
 ghost use Rattle.cmm_proc_scope.specs.Bodies.{scope_of_body};
 ghost use Rattle.cmm_typing.specs.Fitting.{AreWords};
 
-use cmm_ast::{Expr, Int, Room, RoomForm, TypeName};
+use cmm_ast::{Int, Room, RoomForm};
+use cmm_check_declarations::{bytes_of, laid, words_in};
 use cmm_proc_scope::BodyNames;
 use cmm_rules::Rule;
 use cmm_static_semantics::Spot;
 use cmm_symbols::unless;
-use cmm_typing::{Names, is_alignment, number_of, width_of};
+use cmm_typing::{Names, is_alignment};
 
 /// The most bytes that the stackdata of a procedure may have, with its padding: 64 KiB.
 const STACKDATA_LIMIT: u64 = 0x1_0000;
-
-/// The least multiple of an alignment that is not below a place.
-fn aligned_up(align: u64, place: u64) -> u64
-    requires align { 0 < align }
-    requires small { align ≤ 16 }
-    requires place { place ≤ stackdata_limit }
-    ensures { result ≡ aligned_up align place }
-{
-    (place + (align - 1)) / align * align
-}
-
-/// Where a count of words of a size ends from an offset on, unless that is past the limit.
-fn laid(place: u64, align: u64, size: u64, count: u64) -> Option<u64>
-    requires place { place ≤ stackdata_limit }
-    requires align { 0 < align }
-    requires small { align ≤ 16 }
-    requires size { 0 < size }
-    ensures { IsWithin result (end_of place (record { align = align; length = count * size } ∷ [])) }
-{
-    let start = aligned_up(align, place);
-    let room = STACKDATA_LIMIT.checked_sub(start)?;
-    if count > room / size {
-        return None;
-    }
-    Some(start + count * size)
-}
-
-/// How many bytes a word of a type has.
-fn bytes_of<N: Names>(names: &N, t: &TypeName) -> u64
-    ensures value { result ≡ limits.bytes_of (N.senses names.now) t.now }
-    ensures some { 0 < result }
-    ensures small { result ≤ 16 }
-{
-    match width_of(names, t) {
-        Some(width) => width.bytes(),
-        None => 1,
-    }
-}
-
-/// How many words a room has: none where their number is broken.
-pub fn words_in<N: Names>(names: &N, count: &Option<Expr>) -> u64
-    requires { AreWords (N.senses names.now) }
-    ensures { result ≡ words_in (N.senses names.now) count.now }
-{
-    match count {
-        Some(e) => number_of(names, e).unwrap_or(0),
-        None => 1,
-    }
-}
 
 /// Where an alignment ends.
 fn after_alignment(alignment: &Int, place: u64) -> Option<u64>
@@ -79,9 +30,9 @@ fn after_alignment(alignment: &Int, place: u64) -> Option<u64>
     ensures { IsWithin result (end_of place (limits.align_piece alignment.now.value ∷ [])) }
 {
     if is_alignment(alignment.value) {
-        laid(place, alignment.value, 1, 0)
+        laid(STACKDATA_LIMIT, place, alignment.value, 1, 0)
     } else {
-        laid(place, 1, 1, 0)
+        laid(STACKDATA_LIMIT, place, 1, 1, 0)
     }
 }
 
@@ -92,11 +43,11 @@ fn after_room<'a, N: Names>(names: &BodyNames<'a, N>, form: &RoomForm, place: u6
     ensures { IsWithin result (end_of place (form_piece (scope_of_body N.senses names.now) form.now ∷ [])) }
 {
     match form {
-        RoomForm::Label(_) => laid(place, 1, 1, 0),
+        RoomForm::Label(_) => laid(STACKDATA_LIMIT, place, 1, 1, 0),
         RoomForm::Align(alignment) => after_alignment(alignment, place),
         RoomForm::Data { width, count } => {
             let size = bytes_of(names.types(), width);
-            laid(place, size, size, words_in(names, count))
+            laid(STACKDATA_LIMIT, place, size, size, words_in(names, count))
         }
     }
 }

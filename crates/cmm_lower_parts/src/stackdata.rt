@@ -12,9 +12,8 @@ ghost use Rattle.cmm_typing.specs.Fitting.{AreWords};
 
 use crate::lengths::{alignment_of, length_of};
 use cmm_ast::{Room, RoomForm};
-use cmm_check_declarations::bytes_of;
+use cmm_check_declarations::{bytes_of, words_in};
 use cmm_items::Items;
-use cmm_limits::words_in;
 use cmm_proc_scope::{BodyNames, ProcNames};
 use cmm_program::StackItem;
 use cmm_typing::Names;

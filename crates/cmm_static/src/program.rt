@@ -5,11 +5,10 @@ ghost use Rattle.cmm_static_semantics.specs.Faults.{AreAccepted};
 ghost use Rattle.cmm_elaboration.specs.Laws.{AreRead, TextsAreBytes};
 ghost use Rattle.cmm_elaboration.specs.Meaning.{meaning_of};
 ghost use Rattle.cmm_program.specs.InRange.{IsInRange};
-ghost use Rattle.cmm_static.specs.Faults.{IsFaultOf};
+ghost use Rattle.cmm_check_units.specs.Faults.{IsFaultOf};
 
-use crate::checking::check_units;
-use crate::fault::StaticFault;
 use cmm_ast::Unit;
+use cmm_check_units::{StaticFault, check_units};
 use cmm_lower::lower;
 use cmm_program::Program;
 use std::alloc::Global;

@@ -7,7 +7,7 @@ use Rattle.cmm_program.specs.Layout.{Piece}
 use Rattle.cmm_program.specs.Limits.{stackdata_limit}
 use Rattle.cmm_static_semantics.specs.Limits.{align_piece, bytes_of, piece_of}
 use Rattle.cmm_static_semantics.specs.Scopes.{Scope, senses, types}
-use Rattle.cmm_limits.specs.Rooms.{words_in}
+use Rattle.cmm_check_declarations.specs.Rooms.{words_in}
 
 -- a place, or none where it is past 64 KiB
 abbrev pub IsWithin : Option ℕ → ℕ → Type 0

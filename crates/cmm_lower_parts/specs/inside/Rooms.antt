@@ -5,7 +5,7 @@ use Rattle.cmm_ast.specs.declared.procedure.RoomForm.TheVariants as rooms
 use Rattle.cmm_program.specs.declared.procedure.StackItem.{StackItem}
 use Rattle.cmm_static_semantics.specs.Scopes.{Scope, senses, types}
 use Rattle.cmm_static_semantics.specs.Limits.{align_piece, bytes_of, piece_of}
-use Rattle.cmm_limits.specs.Rooms.{words_in}
+use Rattle.cmm_check_declarations.specs.Rooms.{words_in}
 use Rattle.cmm_elaboration.specs.Procedures.{item_of}
 
 -- an item, before what is aligned so
