@@ -1,22 +1,26 @@
 -- Spans: those of arms, those that ascend, and the halves of these.
 use Rattle.std.proofs.Common.{◌≡◌, ℕ, zero, suc, ◌+◌, ◌-◌, ◌<◌, ◌≤◌, ◌^◌, refl, sym, ◌∙◌, ap, subst, arith, List, [], ◌∷◌, ◌++◌, length, map, get_or, drop, append_assoc, ◌⊎◌, inl, inr, true, false}
-use Rattle.std.specs.Prelude.{◌||◌, ◌&&◌, ◌==◌, Bool, nat_le, nat_lt}
-use Rattle.std.specs.List.{All}
+use Rattle.std.specs.Prelude.{◌||◌, ◌&&◌, ◌==◌, Bool, flat_map, nat_le, nat_lt}
+use Rattle.std.specs.List.{All, list_all}
 use Rattle.std.specs.List.Sorted.{IsNonDecreasingBy, IsPermutation}
 use Rattle.std.proofs.lemmas.Bool.{and_parts, cases_lt}
 use Rattle.std.proofs.lemmas.Bool.Decides.{nat_tests}
+use Rattle.std.proofs.lemmas.List.{length-map}
 use Rattle.std.proofs.lemmas.List.Elements.{All-cons, All-head, All-tail}
 use Rattle.std.proofs.lemmas.List.Recursion.{is_sum_by}
 use Rattle.std.proofs.lemmas.List.Sorted.{All-permutation, IsPermutation-sym, sum_by-IsPermutation}
 use Rattle.cmm_graph.specs.declared.node.Arm.{Arm}
 use Rattle.cmm_program.specs.Bodies.{is_in_ranges}
+use Rattle.cmm_program.specs.InRange.{do_not_meet, none_meet}
 use Rattle.cmm_program.specs.declared.statement.Range.{Range}
 use Rattle.rv_asm.specs.Parts.{way}
 use Rattle.rv_asm.specs.declared.part.Label.{Label}
-use Rattle.cmm_select.specs.Switches.{AreApart, arm_address, label_of, ranges_in, ranges_of, times_in}
+use Rattle.rv_asm.specs.declared.part.TheConstants.{TABLE_LIMIT}
+use Rattle.cmm_select.specs.Switches.{AreApart, arm_address, label_of, ranges_in}
 use Rattle.cmm_select.specs.inside.NumberRuns.{run_address}
-use Rattle.cmm_select.specs.inside.Searches.{SpansAreApart, ascend, behind, first_of, is_in, is_run, span_address, span_of, span_times, spans_in, spans_of}
+use Rattle.cmm_select.specs.inside.Searches.{ascend, behind, first_of, is_in, is_run, range_of, span_address, span_of, spans_in, spans_of}
 use Rattle.cmm_select.specs.declared.span.Span.{Span}
+use Rattle.cmm_select.specs.declared.span.TheConstants.{LEAST_JUMPS}
 
 -- ---- one after another
 
@@ -58,16 +62,17 @@ module _ (at : ℕ → ℕ) where
       ∙ in_ranges (label_of labels arm.to) arm.ranges v (span_address at (spans_of labels arms) v on)
       ∙ ap (way (is_in_ranges v arm.ranges) (at (label_of labels arm.to).number)) (in_arms labels arms v on)
 
-count_in : (l : Label) (rs : List Range) (more : List Span) → length (spans_in l rs ++ more) ≡ length rs + length more
-count_in l [] more = omega arith
-count_in l (r ∷ rs) more = let e = count_in l rs more in omega (arith, e)
+ranges_in_label : (l : Label) (rs : List Range) (more : List Span) → map range_of (spans_in l rs ++ more) ≡ rs ++ map range_of more
+ranges_in_label l [] more = refl
+ranges_in_label l (r ∷ rs) more = ap (λ (qs : List Range). r ∷ qs) (ranges_in_label l rs more)
+
+pub ranges_are : (labels : List Label) (arms : List Arm) → map range_of (spans_of labels arms) ≡ flat_map (λ arm. arm.ranges) arms
+ranges_are labels [] = refl
+ranges_are labels (arm ∷ arms) =
+    ranges_in_label (label_of labels arm.to) arm.ranges (spans_of labels arms) ∙ ap (λ (rs : List Range). arm.ranges ++ rs) (ranges_are labels arms)
 
 pub count_of : (labels : List Label) (arms : List Arm) → length (spans_of labels arms) ≡ ranges_in arms
-count_of labels [] = refl
-count_of labels (arm ∷ arms) =
-    let e = count_in (label_of labels arm.to) arm.ranges (spans_of labels arms) in
-    let later = count_of labels arms in
-    omega (arith, e, later)
+count_of labels arms = sym (length-map (spans_of labels arms) range_of) ∙ ap (λ (rs : List Range). length rs) (ranges_are labels arms)
 
 -- ---- those that ascend
 
@@ -366,28 +371,56 @@ all_passed (s ∷ ss) zero h = absurd (omega (arith, h))
 all_passed (s ∷ ss) (suc i) h = all_passed ss i (omega (arith, h))
 
 -- why spans are no run
-pub no_run : (ss : List Span) → (length ss < 8) ⊎ ((64 < length ss) ⊎ ((first_of ss + length ss < behind 0 ss) ⊎ (2 ^ 64 ≤ behind 0 ss))) → is_run ss ≡ false
-no_run ss (inl h) = by (length ss) (behind 0 ss) (first_of ss) h
+pub no_run : (ss : List Span) → (length ss < LEAST_JUMPS) ⊎ ((TABLE_LIMIT < length ss) ⊎ ((first_of ss + length ss < behind 0 ss) ⊎ (2 ^ 64 ≤ behind 0 ss))) → is_run ss ≡ false
+no_run ss why = by LEAST_JUMPS (length ss) TABLE_LIMIT (behind 0 ss) (first_of ss + length ss) (2 ^ 64) why
   where
-    by : (n end first : ℕ) → n < 8 → ((nat_le 8 n && nat_le n 64) && (nat_le end (first + n) && nat_lt end (2 ^ 64))) ≡ false
-    by n end first h = grind (arith, nat_tests, h)
-no_run ss (inr (inl h)) = by (length ss) (behind 0 ss) (first_of ss) h
-  where
-    by : (n end first : ℕ) → 64 < n → ((nat_le 8 n && nat_le n 64) && (nat_le end (first + n) && nat_lt end (2 ^ 64))) ≡ false
-    by n end first h = grind (arith, nat_tests, h)
-no_run ss (inr (inr (inl h))) = by (length ss) (behind 0 ss) (first_of ss) h
-  where
-    by : (n end first : ℕ) → first + n < end → ((nat_le 8 n && nat_le n 64) && (nat_le end (first + n) && nat_lt end (2 ^ 64))) ≡ false
-    by n end first h = grind (arith, nat_tests, h)
-no_run ss (inr (inr (inr h))) = by (length ss) (behind 0 ss) (first_of ss) h
-  where
-    by : (n end first : ℕ) → 2 ^ 64 ≤ end → ((nat_le 8 n && nat_le n 64) && (nat_le end (first + n) && nat_lt end (2 ^ 64))) ≡ false
-    by n end first h = grind (arith, nat_tests, h)
+    by : (least n most end limit top : ℕ) → (n < least) ⊎ ((most < n) ⊎ ((limit < end) ⊎ (top ≤ end))) → ((nat_le least n && nat_le n most) && (nat_le end limit && nat_lt end top)) ≡ false
+    by least n most end limit top (inl h) = grind (arith, nat_tests, h)
+    by least n most end limit top (inr (inl h)) = grind (arith, nat_tests, h)
+    by least n most end limit top (inr (inr (inl h))) = grind (arith, nat_tests, h)
+    by least n most end limit top (inr (inr (inr h))) = grind (arith, nat_tests, h)
 
 -- ---- once sorted
 
 abbrev weight : Bool → ℕ
 weight b = elim b [ true ↦ 1 | false ↦ 0 ]
+
+-- how many have a value
+abbrev span_times : ℕ → List Span → ℕ
+span_times v [] = 0
+span_times v (s ∷ ss) = weight (is_in v s) + span_times v ss
+
+lacks : (v : ℕ) (s r : Span) → is_in v s ≡ true → do_not_meet (range_of s) (range_of r) ≡ true → is_in v r ≡ false
+lacks v s r has apart = grind (arith, nat_tests, has, apart)
+
+-- what one of them has is in none that does not meet it
+others_lack : (v : ℕ) (s : Span) (ss : List Span) → is_in v s ≡ true → list_all (do_not_meet (range_of s)) (map range_of ss) ≡ true → span_times v ss ≡ 0
+others_lack v s [] has apart = refl
+others_lack v s (r ∷ ss) has apart =
+    let both = and_parts (do_not_meet (range_of s) (range_of r)) (list_all (do_not_meet (range_of s)) (map range_of ss)) apart in
+    let e : weight (is_in v r) ≡ 0 = ap weight (lacks v s r has both.0) in
+    omega (arith, e, others_lack v s ss has both.1)
+
+has_once : (v : ℕ) (ss : List Span) → none_meet (map range_of ss) ≡ true → span_times v ss ≤ 1
+has_once v [] apart = omega arith
+has_once v (s ∷ ss) apart = by (is_in v s) refl (has_once v ss both.1)
+  where
+    both : (list_all (do_not_meet (range_of s)) (map range_of ss) ≡ true) × (none_meet (map range_of ss) ≡ true)
+    both = and_parts (list_all (do_not_meet (range_of s)) (map range_of ss)) (none_meet (map range_of ss)) apart
+
+    by : (b : Bool) → is_in v s ≡ b → span_times v ss ≤ 1 → span_times v (s ∷ ss) ≤ 1
+    by true has few =
+        let e : weight (is_in v s) ≡ 1 = ap weight has in
+        omega (arith, e, others_lack v s ss has both.0)
+    by false none few =
+        let e : weight (is_in v s) ≡ 0 = ap weight none in
+        omega (arith, e, few)
+
+some_in_each : (ss : List Span) → All (λ r. r.from ≤ r.to) (map range_of ss) → All (λ s. s.from ≤ s.to) ss
+some_in_each [] all = λ k d h. absurd (omega (arith, h))
+some_in_each (s ∷ ss) all =
+    let P : Range → Type 0 = λ r. r.from ≤ r.to in
+    All-cons (λ s. s.from ≤ s.to) s ss (All-head P (range_of s) (map range_of ss) all) (some_in_each ss (All-tail P (range_of s) (map range_of ss) all))
 
 times_kept : (v : ℕ) (xs ys : List Span) → IsPermutation xs ys → span_times v ys ≡ span_times v xs
 times_kept v xs ys same =
@@ -421,45 +454,11 @@ rises least (s ∷ r ∷ ss) up some once low =
     by (inl behind) above next = omega (arith, behind)
     by (inr meets) above next = absurd (both_have r.from s r ss (has_between r.from s above meets) (has_between r.from r (omega arith) next) (once r.from))
 
-pub not_apart : (spans ordered : List Span) → IsPermutation spans ordered → IsNonDecreasingBy (λ s. s.from) ordered → ascend 0 ordered ≡ false → SpansAreApart spans → ⊥
+pub not_apart : (spans ordered : List Span) → IsPermutation spans ordered → IsNonDecreasingBy (λ s. s.from) ordered → ascend 0 ordered ≡ false →
+    AreApart (map range_of spans) → ⊥
 not_apart spans ordered same up falls apart =
     let is : ascend 0 ordered ≡ true =
-    rises 0 ordered up (All-permutation (λ s. s.from ≤ s.to) spans ordered same apart.some)
-    (λ v. let e = times_kept v spans ordered same in let few = apart.once v in omega (arith, e, few)) (omega arith)
+    rises 0 ordered up (All-permutation (λ s. s.from ≤ s.to) spans ordered same (some_in_each spans apart.some))
+    (λ v. let e = times_kept v spans ordered same in let few = has_once v spans apart.apart in omega (arith, e, few)) (omega arith)
     in
     absurd (cc (is, falls))
-
--- ---- of arms that are apart
-
-times_in_label : (v : ℕ) (l : Label) (rs : List Range) (more : List Span) → span_times v (spans_in l rs ++ more) ≡ times_in v rs + span_times v more
-times_in_label v l [] more = omega arith
-times_in_label v l (r ∷ rs) more = let e = times_in_label v l rs more in omega (arith, e)
-
-times_append : (v : ℕ) (qs rs : List Range) → times_in v (qs ++ rs) ≡ times_in v qs + times_in v rs
-times_append v [] rs = omega arith
-times_append v (q ∷ qs) rs = let e = times_append v qs rs in omega (arith, e)
-
-times_of : (v : ℕ) (labels : List Label) (arms : List Arm) → span_times v (spans_of labels arms) ≡ times_in v (ranges_of arms)
-times_of v labels [] = refl
-times_of v labels (arm ∷ arms) =
-    let one = times_in_label v (label_of labels arm.to) arm.ranges (spans_of labels arms) in
-    let two = times_append v arm.ranges (ranges_of arms) in
-    let rest = times_of v labels arms in
-    omega (arith, one, two, rest)
-
-some_in : (l : Label) (rs qs : List Range) (more : List Span) → (All (λ r. r.from ≤ r.to) qs → All (λ s. s.from ≤ s.to) more) → All (λ r. r.from ≤ r.to) (rs ++ qs) →
-    All (λ s. s.from ≤ s.to) (spans_in l rs ++ more)
-some_in l [] qs more rest all = rest all
-some_in l (r ∷ rs) qs more rest all =
-    All-cons (λ s. s.from ≤ s.to) (span_of l r) (spans_in l rs ++ more) (All-head (λ r. r.from ≤ r.to) r (rs ++ qs) all)
-    (some_in l rs qs more rest (All-tail (λ r. r.from ≤ r.to) r (rs ++ qs) all))
-
-some_of : (labels : List Label) (arms : List Arm) → All (λ r. r.from ≤ r.to) (ranges_of arms) → All (λ s. s.from ≤ s.to) (spans_of labels arms)
-some_of labels [] all = λ k d h. absurd (omega (arith, h))
-some_of labels (arm ∷ arms) all = some_in (label_of labels arm.to) arm.ranges (ranges_of arms) (spans_of labels arms) (some_of labels arms) all
-
-pub apart_of : (labels : List Label) (arms : List Arm) → AreApart (ranges_of arms) → SpansAreApart (spans_of labels arms)
-apart_of labels arms apart = record {
-  some = some_of labels arms apart.some;
-  once = λ v. let e = times_of v labels arms in let few = apart.once v in omega (arith, e, few);
-}

@@ -1,10 +1,11 @@
 -- Which way switches go (C-- Language Specification 2.0, the switch statement).
-use Rattle.std.specs.Prelude.{◌≡◌, ℕ, ◌+◌, ◌≤◌, ◌^◌, ◌&&◌, nat_le, true, false, List, [], ◌∷◌, ◌++◌, length, replicate, slice_index_or}
+use Rattle.std.specs.Prelude.{◌≡◌, ℕ, ◌+◌, ◌≤◌, ◌^◌, IsTrue, true, List, [], ◌∷◌, ◌++◌, flat_map, length, replicate, slice_index_or}
 use Rattle.std.specs.List.{All}
 use Rattle.cmm_abi.specs.declared.registers.TheConstants.{FIRST_SCRATCH}
 use Rattle.cmm_graph.specs.declared.node.Arm.{Arm}
 use Rattle.cmm_graph.specs.declared.number.NodeId.{NodeId}
 use Rattle.cmm_program.specs.Bodies.{is_in_ranges}
+use Rattle.cmm_program.specs.InRange.{none_meet}
 use Rattle.cmm_program.specs.declared.statement.Range.{Range}
 use Rattle.rv_asm.specs.Parts.{Code, way}
 use Rattle.rv_asm.specs.declared.part.Label.{Label}
@@ -24,23 +25,12 @@ pub record KeepsFirst (s t : State) : Type 0 where
 
 -- how many ranges arms have
 abbrev pub ranges_in : List Arm → ℕ
-ranges_in [] = 0
-ranges_in (arm ∷ arms) = length arm.ranges + ranges_in arms
+ranges_in arms = length (flat_map (λ arm. arm.ranges) arms)
 
--- how many of some ranges have a number
-abbrev pub times_in : ℕ → List Range → ℕ
-times_in value [] = 0
-times_in value (range ∷ ranges) = elim (nat_le range.from value && nat_le value range.to) [ true ↦ 1 | false ↦ 0 ] + times_in value ranges
-
--- no range is empty, and no number is in two
+-- no range is empty, and no two meet
 pub record AreApart (ranges : List Range) : Type 0 where
   pub some : All (λ range. range.from ≤ range.to) ranges
-  pub once : (value : ℕ) → times_in value ranges ≤ 1
-
--- the ranges of arms
-abbrev pub ranges_of : List Arm → List Range
-ranges_of [] = []
-ranges_of (arm ∷ arms) = arm.ranges ++ ranges_of arms
+  pub apart : IsTrue (none_meet ranges)
 
 -- the label of a node
 abbrev pub label_of : List Label → NodeId → Label

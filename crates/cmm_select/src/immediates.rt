@@ -1,19 +1,23 @@
-//! Operators and comparisons of a word and a small number, which instructions hold.
+//! Operators and comparisons of a word and a small number, which instructions hold, and the difference of a word and any number.
 
 ghost use Rattle.std.specs.Prelude.{◌≡◌, ◌+◌, ◌<◌, IfSome, OnOk};
 ghost use Rattle.cmm_words.specs.Widths.{IsWord};
 ghost use Rattle.rv_table.specs.Table.{IsValid};
-ghost use Rattle.cmm_effects.specs.Pieces.{Adds, Leads};
+ghost use Rattle.rv_table.specs.Words.{difference};
+ghost use Rattle.cmm_effects.specs.Changes.{Sets};
+ghost use Rattle.cmm_effects.specs.Pieces.{Adds, Always, Leads};
 ghost use Rattle.cmm_select.specs.Operators.{shifts_of};
 ghost use Rattle.cmm_select.specs.inside.Immediates.{compared_below, compared_of, first_comparing, heeds_sign, immediate, limit_of, second_comparing, small_of};
 ghost use Rattle.cmm_select.specs.inside.Comparing.{TellsNumber, is_positive};
 ghost use Rattle.cmm_select.specs.inside.InPlace.{IsTarget, IsValue, Makes, Tells01};
 
 use crate::comparing::{compare, needs_signs};
+use crate::number::load_constant;
 use crate::operand::Operand;
 use crate::operator::{narrow, sign};
 use crate::source::Source;
-use cmm_abi::registers::ZERO;
+use crate::word::NEAR;
+use cmm_abi::registers::{FIRST_SCRATCH, SECOND_SCRATCH, ZERO};
 use cmm_words::laws::{wide_comparisons, wide_operators};
 use cmm_words::{Cmp, Op2, Width};
 use rv_asm::Asm;
@@ -110,6 +114,24 @@ pub(crate) fn instruction(operator: Op2, rd: u8, rs1: u8, number: u64) -> Instr
         Op2::Shra => Instr::Srai { rd, rs1, imm },
         _ => Instr::Addi { rd, rs1, imm },
     }
+}
+
+/// Gives register 7 the difference of the value in register 5 and a number.
+pub(crate) fn measure(asm: &mut Asm, first: u64) -> Result<(), AllocError>
+    ensures measures { OnOk result (Adds 9 asm.old.parts asm.new.parts (Leads 9 Always (λ s t. Sets SECOND_SCRATCH (difference (s.registers FIRST_SCRATCH) first) s t))) }
+    ensures labels { asm.new.labels ≡ asm.old.labels }
+{
+    if first < u64::from(NEAR) {
+        asm.emit(instruction(Op2::Sub, SECOND_SCRATCH, FIRST_SCRATCH, first))?;
+        return Ok(());
+    }
+    load_constant(asm, first, SECOND_SCRATCH)?;
+    asm.emit(Instr::Sub {
+        rd: SECOND_SCRATCH,
+        rs1: FIRST_SCRATCH,
+        rs2: SECOND_SCRATCH,
+    })?;
+    Ok(())
 }
 
 /// Numbers below this are held by the instructions of a comparison at a width, with the number behind each; as words they have no sign.

@@ -3,12 +3,13 @@
 ghost use Rattle.std.specs.Prelude.{◌≡◌, ◌+◌, ◌-◌, ◌*◌, ◌≤◌, length, pos, ◌-ℤ◌, OnOk};
 ghost use Rattle.std.specs.List.{All};
 ghost use Rattle.rv_asm.specs.Assembly.{IsInner};
+ghost use Rattle.rv_asm.specs.declared.part.TheConstants.{TABLE_LIMIT};
 ghost use Rattle.rv_table.specs.Table.{IsValid};
 ghost use Rattle.rv_table.specs.declared.instruction.Instr.TheVariants.{Jalr, Sltiu};
 ghost use Rattle.cmm_effects.specs.Pieces.{Adds, Always, Leads};
 ghost use Rattle.cmm_select.specs.inside.NumberRuns.{GoesInRun, Masks};
 
-use crate::switching::measure;
+use crate::immediates::measure;
 use cmm_abi::registers::{HELPER, SECOND_SCRATCH, ZERO};
 use rv_asm::{Asm, Label};
 use rv_table::Instr;
@@ -18,7 +19,7 @@ use std::alloc::AllocError;
 /// it is below the end, any other as the end itself, and 4 bytes of the table are passed for each number that comes before it.
 pub(crate) fn jump_by_table(asm: &mut Asm, end: u64, to: &[Label]) -> Result<(), AllocError>
     requires some { 1 ≤ length to.now }
-    requires few { length to.now ≤ 64 }
+    requires few { length to.now ≤ TABLE_LIMIT }
     requires low { length to.now ≤ end }
     requires inner { All (IsInner asm.old.labels) to.now }
     ensures goes { OnOk result (Adds (20 * length to.now) asm.old.parts asm.new.parts (GoesInRun 20 to.now (end - length to.now))) }
@@ -46,7 +47,7 @@ pub(crate) fn jump_by_table(asm: &mut Asm, end: u64, to: &[Label]) -> Result<(),
 /// Leaves register 7 as it is where it is one of the last `count` numbers of 64 bits, and makes it 0 elsewhere.
 fn mask_outside(asm: &mut Asm, count: usize) -> Result<(), AllocError>
     requires some { 1 ≤ count }
-    requires few { count ≤ 64 }
+    requires few { count ≤ TABLE_LIMIT }
     ensures masks { OnOk result (Adds 3 asm.old.parts asm.new.parts (Leads 3 Always (Masks count))) }
     ensures labels { asm.new.labels ≡ asm.old.labels }
 {
@@ -66,7 +67,7 @@ fn mask_outside(asm: &mut Asm, count: usize) -> Result<(), AllocError>
 
 /// Gives register 6 whether register 7 is below the last `count` numbers of 64 bits.
 fn test_outside(count: usize) -> Instr
-    requires { count ≤ 64 }
+    requires { count ≤ TABLE_LIMIT }
     ensures is { result ≡ Sltiu HELPER SECOND_SCRATCH (pos 0 -ℤ pos count) }
     ensures valid { IsValid result }
 {
@@ -79,7 +80,7 @@ fn test_outside(count: usize) -> Instr
 
 /// Jumps to the place `count` words behind the table that begins three words behind the address of which register 7 is the sum with 4 bytes less for each number up to the end.
 fn jump_past(count: usize) -> Instr
-    requires { count ≤ 64 }
+    requires { count ≤ TABLE_LIMIT }
     ensures is { result ≡ Jalr ZERO SECOND_SCRATCH (pos (12 + 4 * count)) }
     ensures valid { IsValid result }
 {

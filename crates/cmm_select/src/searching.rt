@@ -4,14 +4,15 @@
 ghost use Rattle.std.specs.Prelude.{◌≡◌, ℕ, ◌+◌, ◌-◌, ◌*◌, ◌<◌, ◌≤◌, ◌^◌, ◌++◌, length, map, true, IfOk, OnOk};
 ghost use Rattle.std.specs.List.{All};
 ghost use Rattle.rv_asm.specs.Assembly.{IsInner};
+ghost use Rattle.rv_asm.specs.declared.part.TheConstants.{TABLE_LIMIT};
 ghost use Rattle.cmm_effects.specs.Pieces.{Adds};
 ghost use Rattle.cmm_select.specs.Switches.{MakesInner};
 ghost use Rattle.cmm_select.specs.inside.Searches.{GoesInSpan, GoesInSpans, Searches, GoesFrom, ascend, behind, first_of, is_run};
 
+use crate::immediates::measure;
 use crate::jump_table::jump_by_table;
 use crate::number::load_constant;
 use crate::span::{Span, end_of_run};
-use crate::switching::measure;
 use cmm_abi::registers::{FIRST_SCRATCH, HELPER, SECOND_SCRATCH};
 use cmm_words::Cmp;
 use rv_asm::{Asm, Label};
@@ -71,7 +72,7 @@ fn labels_of(alloc: Global, spans: &[Span]) -> Result<Vec<Label>, AllocError>
 /// Goes to the label of the value in register 5 by a table, where spans are of one number each, and these follow one another up to one before `end`.
 fn jump_in_spans(asm: &mut Asm, spans: &[Span], end: u64) -> Result<(), AllocError>
     requires some { 1 ≤ length spans.now }
-    requires few { length spans.now ≤ 64 }
+    requires few { length spans.now ≤ TABLE_LIMIT }
     requires apart { ascend 0 spans.now ≡ true }
     requires behind { end ≡ behind 0 spans.now }
     requires run { end ≡ first_of spans.now + length spans.now }

@@ -1,9 +1,10 @@
 //! Ranges with the labels to which a switch goes for their numbers.
 
-ghost use Rattle.std.specs.Prelude.{◌≡◌, ◌≤◌, ◌+◌, ◌++◌, ◌<◌, length, true, false, IfOk, IfNone, IfSome, OnOk};
+ghost use Rattle.std.specs.Prelude.{◌≡◌, ◌≤◌, ◌+◌, ◌++◌, ◌<◌, length, map, true, false, IfOk, IfNone, IfSome, OnOk};
 ghost use Rattle.std.specs.List.{All};
 ghost use Rattle.std.specs.List.Sorted.{IsPermutation};
-ghost use Rattle.cmm_select.specs.inside.Searches.{SpansAreApart, ascend, behind, first_of, is_run, spans_in, spans_of};
+ghost use Rattle.cmm_select.specs.Switches.{AreApart};
+ghost use Rattle.cmm_select.specs.inside.Searches.{ascend, behind, first_of, is_run, range_of, spans_in, spans_of};
 
 use cmm_graph::Arm;
 use cmm_program::Range;
@@ -69,7 +70,7 @@ fn ascend(spans: &[Span]) -> bool
 /// Spans in ascending order, or nothing where one is empty or two meet.
 pub(crate) fn in_order(alloc: Global, spans: &[Span]) -> Result<Option<Vec<Span>>, AllocError>
     ensures found { IfOk result (λ found. IfSome found (λ ordered. IsPermutation spans.now ordered.items × ascend 0 ordered.items ≡ true)) }
-    ensures none { IfOk result (λ found. IfNone found (SpansAreApart spans.now → ⊥)) }
+    ensures none { IfOk result (λ found. IfNone found (AreApart (map range_of spans.now) → ⊥)) }
 {
     let mut ordered = spans.to_vec(alloc)?;
     ordered.sort_by_key(|span| span.from)?;
@@ -79,15 +80,15 @@ pub(crate) fn in_order(alloc: Global, spans: &[Span]) -> Result<Option<Vec<Span>
     Ok(Some(ordered))
 }
 
-/// From so many numbers on spans are one table. In the mean a search by halves takes as many instructions for eight numbers as a table does, and more for ten.
-const LEAST_JUMPS: usize = 8;
+/// From so many numbers on spans are one table, which takes eleven instructions for each: by halves the slowest of sixteen takes twelve.
+const LEAST_JUMPS: usize = 16;
 
 /// What is one behind the last number of spans that ascend, where these are of one number each, which follow one another, and a table has room for
 /// them and is worth its instructions.
 pub(crate) fn end_of_run(spans: &[Span]) -> Option<u64>
     requires { ascend 0 spans.now ≡ true }
     ensures none { IfNone result (is_run spans.now ≡ false) }
-    ensures some { IfSome result (λ end. (8 ≤ length spans.now) × (length spans.now ≤ 64) × (end ≡ behind 0 spans.now) × (end ≡ first_of spans.now + length spans.now)) }
+    ensures some { IfSome result (λ end. (LEAST_JUMPS ≤ length spans.now) × (length spans.now ≤ TABLE_LIMIT) × (end ≡ behind 0 spans.now) × (end ≡ first_of spans.now + length spans.now)) }
 {
     let [first, .., last] = spans else {
         return None;

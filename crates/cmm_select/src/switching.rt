@@ -1,25 +1,18 @@
 //! Switches: the value is looked for among the ranges of the arms, in ascending order if there is one.
 
-ghost use Rattle.std.specs.Prelude.{◌≡◌, ℕ, ◌+◌, ◌*◌, ◌^◌, ◌<◌, ◌≤◌, length, OnOk};
+ghost use Rattle.std.specs.Prelude.{◌≡◌, ℕ, ◌+◌, ◌*◌, ◌^◌, ◌<◌, ◌≤◌, flat_map, length, OnOk};
 ghost use Rattle.std.specs.List.{All};
 ghost use Rattle.rv_asm.specs.Assembly.{IsInner};
-ghost use Rattle.rv_table.specs.Words.{difference};
-ghost use Rattle.cmm_effects.specs.Changes.{Sets};
-ghost use Rattle.cmm_effects.specs.Pieces.{Adds, Always, Leads};
+ghost use Rattle.cmm_effects.specs.Pieces.{Adds};
 ghost use Rattle.cmm_select.specs.Operands.{IsOperand, most_for};
-ghost use Rattle.cmm_select.specs.Switches.{AreApart, MakesInner, Switches, ranges_in, ranges_of};
+ghost use Rattle.cmm_select.specs.Switches.{AreApart, MakesInner, Switches, ranges_in};
 
-use crate::immediates::instruction;
-use crate::number::load_constant;
 use crate::operand::{Operand, bring_operand};
 use crate::searching::{branch_in_spans, go_among};
 use crate::span::{in_order, spans_of};
-use crate::word::NEAR;
-use cmm_abi::registers::{FIRST_SCRATCH, SECOND_SCRATCH};
+use cmm_abi::registers::FIRST_SCRATCH;
 use cmm_graph::Arm;
-use cmm_words::Op2;
 use rv_asm::{Asm, Label};
-use rv_table::Instr;
 use std::alloc::AllocError;
 
 /// Goes to the label of the first arm that is for an operand, by the labels of nodes, and on where none is.
@@ -33,7 +26,7 @@ pub fn switch(
     requires arms { All (λ arm. arm.to.number < length labels.now) arms.now }
     requires inner { All (IsInner asm.old.labels) labels.now }
     ensures switches { OnOk result (Adds (most_for value.now + 27 * ranges_in arms.now) asm.old.parts asm.new.parts (Switches (most_for value.now + 20 * ranges_in arms.now) value.now labels.now arms.now)) }
-    ensures halves { OnOk result ((k : ℕ) → ranges_in arms.now ≤ 4 * 2 ^ k → AreApart (ranges_of arms.now) → length asm.old.labels + ranges_in arms.now < 2 ^ 32 →
+    ensures halves { OnOk result ((k : ℕ) → ranges_in arms.now ≤ 4 * 2 ^ k → AreApart (flat_map (λ arm. arm.ranges) arms.now) → length asm.old.labels + ranges_in arms.now < 2 ^ 32 →
         Adds (most_for value.now + 27 * ranges_in arms.now) asm.old.parts asm.new.parts (Switches (most_for value.now + (82 + 11 * k)) value.now labels.now arms.now)) }
     ensures labels { OnOk result (MakesInner (ranges_in arms.now) asm.old.labels asm.new.labels) }
 {
@@ -43,23 +36,5 @@ pub fn switch(
         Some(ordered) => go_among(asm, &ordered)?,
         None => branch_in_spans(asm, &spans)?,
     }
-    Ok(())
-}
-
-/// Gives register 7 the difference of the value in register 5 and a number.
-pub(crate) fn measure(asm: &mut Asm, first: u64) -> Result<(), AllocError>
-    ensures measures { OnOk result (Adds 9 asm.old.parts asm.new.parts (Leads 9 Always (λ s t. Sets SECOND_SCRATCH (difference (s.registers FIRST_SCRATCH) first) s t))) }
-    ensures labels { asm.new.labels ≡ asm.old.labels }
-{
-    if first < u64::from(NEAR) {
-        asm.emit(instruction(Op2::Sub, SECOND_SCRATCH, FIRST_SCRATCH, first))?;
-        return Ok(());
-    }
-    load_constant(asm, first, SECOND_SCRATCH)?;
-    asm.emit(Instr::Sub {
-        rd: SECOND_SCRATCH,
-        rs1: FIRST_SCRATCH,
-        rs2: SECOND_SCRATCH,
-    })?;
     Ok(())
 }

@@ -1,9 +1,11 @@
 -- Labels and arms of a switch, one after the other.
-use Rattle.std.proofs.Common.{◌≡◌, ℕ, zero, suc, ◌+◌, ◌<◌, true, false, List, [], ◌∷◌, ◌++◌, length, length-append, get_or, refl, sym, ◌∙◌, ap, subst, arith, append_assoc, Some}
-use Rattle.std.specs.Prelude.{slice_get, slice_set, IsTrue}
+use Rattle.std.proofs.Common.{◌≡◌, ℕ, zero, suc, ◌+◌, ◌<◌, true, false, List, [], ◌∷◌, ◌++◌, length, length-append, get_or, refl, sym, ◌∙◌, ap, subst, arith, append_assoc, append-nil, Some}
+use Rattle.std.specs.Prelude.{flat_map, slice_get, slice_set, IsTrue}
 use Rattle.std.specs.List.{All}
+use Rattle.std.proofs.lemmas.Grind.{flat_map-append}
 use Rattle.std.proofs.lemmas.List.Elements.{All-append}
 use Rattle.cmm_graph.specs.declared.node.Arm.{Arm}
+use Rattle.cmm_program.specs.declared.statement.Range.{Range}
 use Rattle.rv_asm.proofs.Shared.{AreKept, kept_more}
 use Rattle.rv_asm.specs.Assembly.{IsInner}
 use Rattle.rv_asm.specs.declared.part.Label.{Label}
@@ -44,8 +46,10 @@ placed_more xs ys zs i front last = last ∙ ap (λ (ms : List Meaning). ms ++ I
 -- ---- arms
 
 pub ranges_in-append : (xs : List Arm) (arm : Arm) → ranges_in (xs ++ arm ∷ []) ≡ ranges_in xs + length arm.ranges
-ranges_in-append [] arm = omega arith
-ranges_in-append (x ∷ xs) arm = omega (arith, ranges_in-append xs arm)
+ranges_in-append xs arm =
+    let f : Arm → List Range = λ arm. arm.ranges in
+    ap (λ (rs : List Range). length rs) (flat_map-append f xs (arm ∷ [])) ∙ length-append (flat_map f xs) (arm.ranges ++ [])
+    ∙ ap (λ (rs : List Range). length (flat_map f xs) + length rs) (append-nil arm.ranges)
 
 pub arms_more : (xs : List Arm) (arm : Arm) (i n : ℕ) → arm.to.number ≡ i → i < n → All (λ a. a.to.number < i) xs → All (λ a. a.to.number < n) (xs ++ arm ∷ [])
 arms_more xs arm i n is below all =

@@ -1,6 +1,5 @@
 -- Ranges with their labels, among which a switch looks for its value.
-use Rattle.std.specs.Prelude.{ℕ, suc, ◌+◌, ◌≤◌, ◌^◌, ◌&&◌, nat_le, nat_lt, Bool, true, false, List, [], ◌∷◌, ◌++◌, length, map}
-use Rattle.std.specs.List.{All}
+use Rattle.std.specs.Prelude.{ℕ, suc, ◌+◌, ◌^◌, ◌&&◌, nat_le, nat_lt, Bool, true, false, List, [], ◌∷◌, ◌++◌, length, map}
 use Rattle.cmm_graph.specs.declared.node.Arm.{Arm}
 use Rattle.cmm_program.specs.declared.statement.Range.{Range}
 use Rattle.rv_asm.specs.Parts.{Code, way}
@@ -11,6 +10,7 @@ use Rattle.cmm_effects.specs.Pieces.{Always}
 use Rattle.cmm_effects.specs.Ways.{Goes}
 use Rattle.cmm_select.specs.Switches.{EndsLow, KeepsFirst, label_of}
 use Rattle.cmm_select.specs.declared.span.Span.{Span}
+use Rattle.cmm_select.specs.declared.span.TheConstants.{LEAST_JUMPS}
 
 -- a span has a value
 abbrev pub is_in : ℕ → Span → Bool
@@ -24,6 +24,10 @@ span_address at (span ∷ spans) value on = way (is_in value span) (at span.labe
 -- the ranges of arms, each with the label of its arm
 abbrev pub span_of : Label → Range → Span
 span_of label range = record { from = range.from; to = range.to; label = label }
+
+-- the range of a span
+abbrev pub range_of : Span → Range
+range_of span = record { from = span.from; to = span.to }
 
 abbrev pub spans_in : Label → List Range → List Span
 spans_in label ranges = map (span_of label) ranges
@@ -42,16 +46,6 @@ abbrev pub behind : ℕ → List Span → ℕ
 behind least [] = least
 behind least (span ∷ spans) = behind (suc span.to) spans
 
--- how many have a value
-abbrev pub span_times : ℕ → List Span → ℕ
-span_times value [] = 0
-span_times value (span ∷ spans) = elim (is_in value span) [ true ↦ 1 | false ↦ 0 ] + span_times value spans
-
--- none is empty, and no number is in two
-pub record SpansAreApart (spans : List Span) : Type 0 where
-  pub some : All (λ span. span.from ≤ span.to) spans
-  pub once : (value : ℕ) → span_times value spans ≤ 1
-
 -- the first number of the first one
 abbrev pub first_of : List Span → ℕ
 first_of [] = 0
@@ -60,7 +54,7 @@ first_of (span ∷ spans) = span.from
 -- they have one number each, these follow one another, a table of jumps has room for them and is worth its instructions, and one more number follows
 abbrev pub is_run : List Span → Bool
 is_run spans =
-    (nat_le 8 (length spans) && nat_le (length spans) TABLE_LIMIT)
+    (nat_le LEAST_JUMPS (length spans) && nat_le (length spans) TABLE_LIMIT)
     && (nat_le (behind 0 spans) (first_of spans + length spans) && nat_lt (behind 0 spans) (2 ^ 64))
 
 -- control goes to the label of a span where that has the value in register 5, and on otherwise

@@ -1,4 +1,4 @@
-use Rattle.std.proofs.Common.{◌≡◌, ℕ, ◌+◌, ◌*◌, List, length, ap, subst, sym, ◌∙◌, arith, true}
+use Rattle.std.proofs.Common.{◌≡◌, ℕ, ◌+◌, ◌*◌, List, length, map, ap, subst, sym, ◌∙◌, arith, true}
 use Rattle.std.specs.List.{All}
 use Rattle.std.specs.List.Sorted.{IsPermutation}
 use Rattle.std.proofs.lemmas.List.Sorted.{All-permutation, length_permutation}
@@ -9,10 +9,10 @@ use Rattle.cmm_effects.proofs.Shared.{adds_then, adds_weaker}
 use Rattle.cmm_effects.specs.Pieces.{Adds}
 use Rattle.cmm_select.proofs.Halving.{makes_none}
 use Rattle.cmm_select.proofs.Ranging.{switches}
-use Rattle.cmm_select.proofs.Spans.{all_of, apart_of, count_of, in_another_order, in_arms}
+use Rattle.cmm_select.proofs.Spans.{all_of, count_of, in_another_order, in_arms, ranges_are}
 use Rattle.cmm_select.specs.Operands.{most_for}
-use Rattle.cmm_select.specs.Switches.{MakesInner, Switches, ranges_in}
-use Rattle.cmm_select.specs.inside.Searches.{GoesInSpans, SpansAreApart, ascend, span_address, spans_of}
+use Rattle.cmm_select.specs.Switches.{AreApart, MakesInner, Switches, ranges_in}
+use Rattle.cmm_select.specs.inside.Searches.{GoesInSpans, ascend, range_of, span_address, spans_of}
 use Rattle.cmm_select.specs.declared.span.Span.{Span}
 use Rattle.cmm_select.proofs.switching.switch.Goals.{in-Some+in_ok-go_among-in-Some, in-None+in_ok-branch_in_spans-in-None}
 use Rattle.cmm_select.proofs.switching.switch.Goals as goal
@@ -114,6 +114,6 @@ returns-clause-halves c = λ k few apart room.
           switches x labels arms ordered value from on (82 + 11 * k)
           (λ v. in_another_order x.at spans ordered v on found.0 found.1 ∙ ap (λ (ss : List Span). span_address x.at ss v on) whole ∙ in_arms x.at labels arms v on) does))
       | in-None+in_ok-branch_in_spans-in-None w ↦
-          let not : SpansAreApart spans → ⊥ = rw w.in-None.is at c.in_ok-ordered.ensures.none in
-          absurd (not (subst SpansAreApart (sym whole) (apart_of labels arms apart)))
+          let not : AreApart (map range_of spans) → ⊥ = rw w.in-None.is at c.in_ok-ordered.ensures.none in
+          absurd (not (subst AreApart (sym (ap (map range_of) whole ∙ ranges_are labels arms)) apart))
     ]

@@ -6,7 +6,7 @@ use Rattle.cmm_select.proofs.Constants.{eight_at_most}
 use Rattle.cmm_select.proofs.Places.{One}
 use Rattle.cmm_select.proofs.Ranging.{measures_loaded, measures_small}
 use Rattle.cmm_select.specs.Operands.{most_for_number}
-use Rattle.cmm_select.proofs.switching.measure.Goals as goal
+use Rattle.cmm_select.proofs.immediates.measure.Goals as goal
 
 pub returns-then-first-from-clause-measures : goal.returns-then-first-from-clause-measures
 returns-then-first-from-clause-measures c =
