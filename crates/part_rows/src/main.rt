@@ -7,13 +7,14 @@
 //! - `text`: the bytes and the numbers that a case spells.
 //! - `lists`: lists, sets, moves and graphs. `colours`: lists of nodes, and colours of conflicts. `readings`: tokens, rules and what is written of values. `scripts`: what is read of a script.
 //! - `fakes`, `files`: streams and files in memory. `placements`: where a program of two procedures may stand.
-//! - `steps`: words of instructions, single steps, and accesses of memory.
+//! - `steps`: words of instructions, single steps, and accesses of memory. `instructions`: how an instruction is printed.
 #![tactic(auto)]
 
 mod cases;
 mod colours;
 mod fakes;
 mod files;
+mod instructions;
 mod lists;
 mod placements;
 mod readings;

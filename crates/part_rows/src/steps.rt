@@ -3,6 +3,7 @@
 ghost use Rattle.std.specs.Prelude.{IsTrue};
 ghost use Rattle.rv_table.specs.Bounds.{is_size};
 
+use crate::instructions::print_instruction;
 use crate::text::{asked, bytes_of, hexadecimal_of, hexadecimals_of};
 use rv_code::{decode, encode};
 use rv_memory::Memory;
@@ -24,7 +25,8 @@ pub fn print_word(rt: &impl Print, text: &str) -> io::Result<()> {
     match decode(word) {
         Some(instruction) => {
             let again = valid(instruction) && is_encoded(instruction, word);
-            print!(rt; " {instruction:?} {again}")
+            print_instruction(rt, instruction)?;
+            print!(rt; " {again}")
         }
         None => print!(rt; " none"),
     }

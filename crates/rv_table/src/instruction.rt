@@ -7,7 +7,7 @@ ghost use Rattle.rv_table.specs.Table.{IsValid};
 /// that is written, and `rs1` and `rs2` are those that are read. `imm` is the signed number of the format, in bytes for jumps,
 /// branches, loads and stores. For `Lui` and `Auipc` it is the upper 20 bits as a number from 0 to 1,048,575, and for a shift by an
 /// immediate its amount.
-#[derive(Clone, Copy, Debug)]
+#[derive(Clone, Copy)]
 pub enum Instr {
     /// The immediate over twelve zeros.
     Lui { rd: u8, imm: i32 },
@@ -174,40 +174,39 @@ pub fn valid(i: Instr) -> bool
         Instr::Slli { rd, rs1, imm } => fits_shift(rd, rs1, imm),
         Instr::Srli { rd, rs1, imm } => fits_shift(rd, rs1, imm),
         Instr::Srai { rd, rs1, imm } => fits_shift(rd, rs1, imm),
-        Instr::Add { rd, rs1, rs2 } => fits_r(rd, rs1, rs2),
-        Instr::Sll { rd, rs1, rs2 } => fits_r(rd, rs1, rs2),
-        Instr::Slt { rd, rs1, rs2 } => fits_r(rd, rs1, rs2),
-        Instr::Sltu { rd, rs1, rs2 } => fits_r(rd, rs1, rs2),
-        Instr::Xor { rd, rs1, rs2 } => fits_r(rd, rs1, rs2),
-        Instr::Srl { rd, rs1, rs2 } => fits_r(rd, rs1, rs2),
-        Instr::Or { rd, rs1, rs2 } => fits_r(rd, rs1, rs2),
-        Instr::And { rd, rs1, rs2 } => fits_r(rd, rs1, rs2),
-        Instr::Sub { rd, rs1, rs2 } => fits_r(rd, rs1, rs2),
-        Instr::Sra { rd, rs1, rs2 } => fits_r(rd, rs1, rs2),
-        Instr::Mul { rd, rs1, rs2 } => fits_r(rd, rs1, rs2),
-        Instr::Mulh { rd, rs1, rs2 } => fits_r(rd, rs1, rs2),
-        Instr::Mulhsu { rd, rs1, rs2 } => fits_r(rd, rs1, rs2),
-        Instr::Mulhu { rd, rs1, rs2 } => fits_r(rd, rs1, rs2),
-        Instr::Div { rd, rs1, rs2 } => fits_r(rd, rs1, rs2),
-        Instr::Divu { rd, rs1, rs2 } => fits_r(rd, rs1, rs2),
-        Instr::Rem { rd, rs1, rs2 } => fits_r(rd, rs1, rs2),
-        Instr::Remu { rd, rs1, rs2 } => fits_r(rd, rs1, rs2),
         Instr::Addiw { rd, rs1, imm } => fits_i(rd, rs1, imm),
         Instr::Slliw { rd, rs1, imm } => fits_word_shift(rd, rs1, imm),
         Instr::Srliw { rd, rs1, imm } => fits_word_shift(rd, rs1, imm),
         Instr::Sraiw { rd, rs1, imm } => fits_word_shift(rd, rs1, imm),
-        Instr::Addw { rd, rs1, rs2 } => fits_r(rd, rs1, rs2),
-        Instr::Sllw { rd, rs1, rs2 } => fits_r(rd, rs1, rs2),
-        Instr::Srlw { rd, rs1, rs2 } => fits_r(rd, rs1, rs2),
-        Instr::Subw { rd, rs1, rs2 } => fits_r(rd, rs1, rs2),
-        Instr::Sraw { rd, rs1, rs2 } => fits_r(rd, rs1, rs2),
-        Instr::Mulw { rd, rs1, rs2 } => fits_r(rd, rs1, rs2),
-        Instr::Divw { rd, rs1, rs2 } => fits_r(rd, rs1, rs2),
-        Instr::Divuw { rd, rs1, rs2 } => fits_r(rd, rs1, rs2),
-        Instr::Remw { rd, rs1, rs2 } => fits_r(rd, rs1, rs2),
-        Instr::Remuw { rd, rs1, rs2 } => fits_r(rd, rs1, rs2),
-        Instr::Ecall => true,
-        Instr::Ebreak => true,
+        Instr::Add { rd, rs1, rs2 }
+        | Instr::Sll { rd, rs1, rs2 }
+        | Instr::Slt { rd, rs1, rs2 }
+        | Instr::Sltu { rd, rs1, rs2 }
+        | Instr::Xor { rd, rs1, rs2 }
+        | Instr::Srl { rd, rs1, rs2 }
+        | Instr::Or { rd, rs1, rs2 }
+        | Instr::And { rd, rs1, rs2 }
+        | Instr::Sub { rd, rs1, rs2 }
+        | Instr::Sra { rd, rs1, rs2 }
+        | Instr::Mul { rd, rs1, rs2 }
+        | Instr::Mulh { rd, rs1, rs2 }
+        | Instr::Mulhsu { rd, rs1, rs2 }
+        | Instr::Mulhu { rd, rs1, rs2 }
+        | Instr::Div { rd, rs1, rs2 }
+        | Instr::Divu { rd, rs1, rs2 }
+        | Instr::Rem { rd, rs1, rs2 }
+        | Instr::Remu { rd, rs1, rs2 }
+        | Instr::Addw { rd, rs1, rs2 }
+        | Instr::Sllw { rd, rs1, rs2 }
+        | Instr::Srlw { rd, rs1, rs2 }
+        | Instr::Subw { rd, rs1, rs2 }
+        | Instr::Sraw { rd, rs1, rs2 }
+        | Instr::Mulw { rd, rs1, rs2 }
+        | Instr::Divw { rd, rs1, rs2 }
+        | Instr::Divuw { rd, rs1, rs2 }
+        | Instr::Remw { rd, rs1, rs2 }
+        | Instr::Remuw { rd, rs1, rs2 } => fits_r(rd, rs1, rs2),
+        Instr::Ecall | Instr::Ebreak => true,
     }
 }
 
