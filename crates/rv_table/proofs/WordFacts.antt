@@ -65,6 +65,23 @@ quotient-64 a b r x y q ha hb nonzero ex ey eq er =
     rw (er, eq, ex, ey, of_z-to_z w64 a ha, of_z-to_z w64 b hb, e, signed-64 a ha, signed-64 b hb, back, back)
     (bits_extended z near)
 
+signed_mag-64 : (n : ℕ) → n < 2 ^ 64 → mag (to_z w64 n) < 2 ^ 63
+signed_mag-64 n h = grind (arith, nat_tests)
+
+near_zero : (z : ℤ) → mag z < 2 ^ 63 → unsigned_abs z ≤ 2 ^ 63
+near_zero (pos n) h = omega (arith, h)
+near_zero (negsuc n) h = omega (arith, h)
+
+-- what the remainder of the signed readings gives
+pub remainder-64 : (a b r : ℕ) (x y q : ℤ) → a < 2 ^ 64 → b < 2 ^ 64 → b ≢ 0 → x ≡ to_z w64 a → y ≡ to_z w64 b →
+    q ≡ int_rem (to_z w64 (of_z w64 x)) (to_z w64 (of_z w64 y)) → r ≡ of_z w64 (to_z w64 (of_z w64 q)) → r ≡ remainder 64 a b
+remainder-64 a b r x y q ha hb nonzero ex ey eq er =
+    let e : (b % 2 ^ 64 == 0) ≡ false = grind (arith, nat_tests) in
+    let z = int_rem (to_z w64 a) (to_z w64 b) in
+    let near : unsigned_abs z ≤ 2 ^ 63 = near_zero z (lt_of_le_of_lt (mag_rem (to_z w64 a) (to_z w64 b)) (signed_mag-64 a ha)) in
+    let back : of_z w64 (to_z w64 (of_z w64 z)) ≡ of_z w64 z = of_z-to_z w64 (of_z w64 z) (bits_below z near) in
+    rw (er, eq, ex, ey, of_z-to_z w64 a ha, of_z-to_z w64 b hb, e, signed-64 a ha, signed-64 b hb, back) (bits_extended z near)
+
 -- ---- 32 bits
 word-modulo : (z : ℤ) → word (modulo 64 z) ≡ sign_extended 32 (modulo 32 z)
 word-modulo z = rw (← modulo-32 z) (grind (arith, nat_tests))
