@@ -1,11 +1,9 @@
 #!/usr/bin/env python3
-"""Makes the input of crates/code_rows and what has to come of it, from formulas over Python's integers.
+"""The rows of crates/part_rows on the code of nodes, from formulas over Python's integers. part_rows.py puts them there.
 
-    tools/code_rows.py              writes crates/code_rows/stdin and crates/code_rows/stdout
-    tools/code_rows.py --check      compares what it makes with these files
     tools/code_rows.py --qemu PROGRAM
                                     has the built program print the code of each operator, runs that in QEMU on the same operands, and compares the results with
-                                    the formulas'. `rt ci` leaves the program in crates/code_rows/out/code_rows.
+                                    the formulas'. `rt ci` leaves the program in crates/part_rows/out/part_rows.
     tools/code_rows.py --table      prints the table of instructions a node of docs/PERFORMANCE.md
 
 The formulas of the operators are those of corner_rows.py. Where the assembler or the emulator is missing, --qemu says so and ends with status 0.
@@ -283,37 +281,12 @@ def print_table():
 
 # ---- what is done with them
 
-def files():
-    made = list(cases())
-    folder = os.path.join(TOP, "crates", "code_rows")
-    yield os.path.join(folder, "stdin"), "".join(f"{case}\n" for case, _ in made)
-    yield os.path.join(folder, "stdout"), "".join(f"{case}: {found}\n" for case, found in made)
-
-
-def write():
-    for path, text in files():
-        with open(path, "w") as f:
-            f.write(text)
-    return 0
-
-
-def check():
-    differ = []
-    for path, text in files():
-        with open(path) as f:
-            differ += [os.path.relpath(path, TOP)] if f.read() != text else []
-    print("differs from what was made: " + ", ".join(differ) if differ else "as made")
-    return 1 if differ else 0
-
-
 def main(arguments):
-    if arguments == ["--check"]:
-        return check()
     if arguments[:1] == ["--qemu"]:
         return compare_with_qemu(arguments[1])
     if arguments == ["--table"]:
         return print_table()
-    return write()
+    sys.exit(__doc__)
 
 
 if __name__ == "__main__":

@@ -35,7 +35,7 @@ CRATES = {
     "cmm_grammar_laws": ["cmm_readers"],
     "front_rows": ["cmm_trees", "cmm_faults", "cmm_resolved", "parser_rows", "static_rows", "typing_rows"],
     "value_tests": ["command_tests", "middle_tests", "run_tests"],
-    "code_rows": ["code_tests"],
+    "part_rows": ["code_tests", "code_rows", "walk_rows"],
 }
 NEW = {old: new for new, olds in CRATES.items() for old in olds}
 JOINED = {old: new for new, olds in CRATES.items() if len(olds) > 1 for old in olds}

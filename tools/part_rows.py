@@ -4,9 +4,10 @@
     tools/part_rows.py              writes crates/part_rows/stdin and crates/part_rows/stdout
     tools/part_rows.py --check      compares what it makes with these files
 
-Tokens are found by the table of docs/FORMATS.md ("Tokens"), scripts by that page's "A script", sums of units by generated_unit.py, and lists, sets, files and streams
-are Python's. What is read by eye alone, as orders in which graphs are peeled, stands beside its case. Words of instructions are the GNU assembler's, and what they do
-is QEMU's (riscv_vectors.py, riscv_steps.py, riscv_program.py); where these are missing, the lines on instructions stay as they stand.
+The rows on the code of nodes are those of code_rows.py, and those on stopped programs of walk_rows.py. Tokens are found by the table of docs/FORMATS.md ("Tokens"),
+scripts by that page's "A script", sums of units by generated_unit.py, and lists, sets, files and streams are Python's. What is read by eye alone, as orders in which
+graphs are peeled, stands beside its case. Words of instructions are the GNU assembler's, and what they do is QEMU's (riscv_vectors.py, riscv_steps.py,
+riscv_program.py); where these are missing, the lines on instructions stay as they stand.
 Debian and Ubuntu: apt-get install binutils-riscv64-linux-gnu qemu-user
 """
 import os
@@ -15,10 +16,12 @@ import shutil
 import sys
 import tempfile
 
+import code_rows
 import generated_unit
 import riscv_program
 import riscv_steps
 import riscv_vectors
+import walk_rows
 from riscv_files import TOOLS
 
 TOP = os.path.join(os.path.dirname(os.path.abspath(__file__)), "..")
@@ -749,13 +752,15 @@ def cases():
     yield from emulated_cases()
     yield from ((f"placed {it}", "true") for it in RIGHT)
     yield from ((f"placed {it}", "false") for _, it in WRONG)
+    yield from code_rows.cases()
 
 
 def files():
     made = list(cases())
+    asked, told = walk_rows.lines()
     folder = os.path.join(TOP, "crates", "part_rows")
-    yield os.path.join(folder, "stdin"), "".join(f"{case}\n" for case, _ in made)
-    yield os.path.join(folder, "stdout"), "".join(f"{case}: {found}\n" for case, found in made)
+    yield os.path.join(folder, "stdin"), "".join(f"{line}\n" for line in [case for case, _ in made] + asked)
+    yield os.path.join(folder, "stdout"), "".join(f"{line}\n" for line in [f"{case}: {found}" for case, found in made] + told)
 
 
 def main(words):

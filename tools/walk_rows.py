@@ -1,22 +1,16 @@
 #!/usr/bin/env python3
-"""Rows for crates/walk_rows: stopped programs of images that are laid out here, and what walks and changes of them come to.
-
-    tools/walk_rows.py              write its stdin and stdout
-    tools/walk_rows.py --check      say whether they are as they would be written
+"""The rows of crates/part_rows on stopped programs of images that are laid out here, and what walks and changes of them come to. part_rows.py puts them there.
 
 The images are written with `struct` from the tables below. What each call comes to is found over the same bytes, by the rules of docs/RUNTIME.md and
 docs/ABI.md: a chain is a list, and places are pairs of a word and a number.
 """
 
-import os
 import struct
-import sys
 
 CODE_BASE, DATA_BASE, REGION = 0x10000, 0x40000000, 0x60000000
 BOTTOM = REGION + 0x1000
 SAVES = [9] + list(range(18, 28))
 NONE = 0xFFFFFFFF
-FOLDER = os.path.join(os.path.dirname(os.path.dirname(os.path.abspath(__file__))), "crates", "walk_rows")
 
 
 class Proc:
@@ -291,7 +285,7 @@ class Rows:
         self.s = Stopped(image, 4096)
 
     def say(self, what, *numbers, name=None):
-        words = [what] + ([name] if name else []) + [f"{n:x}" for n in numbers]
+        words = ["stopped", what] + ([name] if name else []) + [f"{n:x}" for n in numbers]
         self.asked.append(" ".join(words))
         self.told.append(self.asked[-1])
         self.told += self.answers(what, numbers, name)
@@ -495,26 +489,10 @@ def cuts(rows):
     rows.say("regs")
 
 
-def main_rows():
+def lines():
+    """The lines of the input, and those that are printed."""
     rows = Rows()
     rows.image(IMAGE)
     for group in [asks, breaks, sets, pokes, returns, unwinds, cuts]:
         group(rows)
-    return "\n".join(rows.asked) + "\n", "\n".join(rows.told) + "\n"
-
-
-def main_call():
-    same = True
-    for name, text in zip(["stdin", "stdout"], main_rows()):
-        path = os.path.join(FOLDER, name)
-        if "--check" in sys.argv:
-            same = same and os.path.exists(path) and open(path).read() == text
-        else:
-            with open(path, "w") as file:
-                file.write(text)
-    if not same:
-        sys.exit("walk_rows: stdin or stdout are not as tools/walk_rows.py writes them")
-
-
-if __name__ == "__main__":
-    main_call()
+    return rows.asked, rows.told

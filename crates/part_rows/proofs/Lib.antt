@@ -1,1 +1,3 @@
+mod Arms
+mod Fitting
 mod PlacedRows

@@ -1,5 +1,6 @@
 //! What the lines of the input try.
 
+use crate::code::print_tried;
 use crate::colours::{print_colours, print_lists};
 use crate::fakes::{print_lent, print_lent_whole, print_sink, print_source};
 use crate::files::print_files;
@@ -41,6 +42,6 @@ pub fn print_case(rt: &(impl AllocGlobal + Print), what: &str, rest: &str) -> io
         "run" => print_run(rt, rest),
         "memory" => print_memory(rt, rest),
         "placed" => print_placement(rt, rest),
-        _ => print!(rt; " no case"),
+        _ => print_tried(rt, what, rest),
     }
 }

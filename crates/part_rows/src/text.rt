@@ -57,9 +57,20 @@ pub fn hexadecimal_of(word: &str) -> u64 {
 pub fn hexadecimals_of(alloc: Global, text: &str) -> Result<Vec<u64>, AllocError> {
     let mut numbers = Vec::new(alloc);
     for word in text.split(' ') {
-        numbers.push(hexadecimal_of(word))?;
+        if !word.is_empty() {
+            numbers.push(hexadecimal_of(word))?;
+        }
     }
     Ok(numbers)
+}
+
+/// The bytes that pairs of hexadecimal digits write.
+pub fn pairs_of(alloc: Global, digits: &str) -> Result<Vec<u8>, AllocError> {
+    let mut bytes = Vec::new(alloc);
+    for pair in digits.as_bytes().chunks(2) {
+        bytes.push((hexadecimal(pair) % 256) as u8)?;
+    }
+    Ok(bytes)
 }
 
 /// The number that decimal digits write, and the greatest there is where a word is none.
