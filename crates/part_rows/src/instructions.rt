@@ -8,7 +8,7 @@ use std::io;
 enum Operands {
     Upper { rd: u8, imm: i32 },
     Immediate { rd: u8, rs1: u8, imm: i32 },
-    Compared { rs1: u8, rs2: u8, imm: i32 },
+    Sources { rs1: u8, rs2: u8, imm: i32 },
     Registers { rd: u8, rs1: u8, rs2: u8 },
     Nothing,
 }
@@ -22,7 +22,7 @@ pub fn print_instruction(rt: &impl Print, instruction: Instr) -> io::Result<()> 
         Operands::Immediate { rd, rs1, imm } => {
             print!(rt; " {{ rd: {rd}, rs1: {rs1}, imm: {imm} }}")
         }
-        Operands::Compared { rs1, rs2, imm } => {
+        Operands::Sources { rs1, rs2, imm } => {
             print!(rt; " {{ rs1: {rs1}, rs2: {rs2}, imm: {imm} }}")
         }
         Operands::Registers { rd, rs1, rs2 } => {
@@ -39,12 +39,12 @@ fn shown(instruction: Instr) -> (&'static str, Operands) {
         Instr::Auipc { rd, imm } => ("Auipc", Operands::Upper { rd, imm }),
         Instr::Jal { rd, imm } => ("Jal", Operands::Upper { rd, imm }),
         Instr::Jalr { rd, rs1, imm } => ("Jalr", Operands::Immediate { rd, rs1, imm }),
-        Instr::Beq { rs1, rs2, imm } => ("Beq", Operands::Compared { rs1, rs2, imm }),
-        Instr::Bne { rs1, rs2, imm } => ("Bne", Operands::Compared { rs1, rs2, imm }),
-        Instr::Blt { rs1, rs2, imm } => ("Blt", Operands::Compared { rs1, rs2, imm }),
-        Instr::Bge { rs1, rs2, imm } => ("Bge", Operands::Compared { rs1, rs2, imm }),
-        Instr::Bltu { rs1, rs2, imm } => ("Bltu", Operands::Compared { rs1, rs2, imm }),
-        Instr::Bgeu { rs1, rs2, imm } => ("Bgeu", Operands::Compared { rs1, rs2, imm }),
+        Instr::Beq { rs1, rs2, imm } => ("Beq", Operands::Sources { rs1, rs2, imm }),
+        Instr::Bne { rs1, rs2, imm } => ("Bne", Operands::Sources { rs1, rs2, imm }),
+        Instr::Blt { rs1, rs2, imm } => ("Blt", Operands::Sources { rs1, rs2, imm }),
+        Instr::Bge { rs1, rs2, imm } => ("Bge", Operands::Sources { rs1, rs2, imm }),
+        Instr::Bltu { rs1, rs2, imm } => ("Bltu", Operands::Sources { rs1, rs2, imm }),
+        Instr::Bgeu { rs1, rs2, imm } => ("Bgeu", Operands::Sources { rs1, rs2, imm }),
         Instr::Lb { rd, rs1, imm } => ("Lb", Operands::Immediate { rd, rs1, imm }),
         Instr::Lh { rd, rs1, imm } => ("Lh", Operands::Immediate { rd, rs1, imm }),
         Instr::Lw { rd, rs1, imm } => ("Lw", Operands::Immediate { rd, rs1, imm }),
@@ -52,10 +52,10 @@ fn shown(instruction: Instr) -> (&'static str, Operands) {
         Instr::Lbu { rd, rs1, imm } => ("Lbu", Operands::Immediate { rd, rs1, imm }),
         Instr::Lhu { rd, rs1, imm } => ("Lhu", Operands::Immediate { rd, rs1, imm }),
         Instr::Lwu { rd, rs1, imm } => ("Lwu", Operands::Immediate { rd, rs1, imm }),
-        Instr::Sb { rs1, rs2, imm } => ("Sb", Operands::Compared { rs1, rs2, imm }),
-        Instr::Sh { rs1, rs2, imm } => ("Sh", Operands::Compared { rs1, rs2, imm }),
-        Instr::Sw { rs1, rs2, imm } => ("Sw", Operands::Compared { rs1, rs2, imm }),
-        Instr::Sd { rs1, rs2, imm } => ("Sd", Operands::Compared { rs1, rs2, imm }),
+        Instr::Sb { rs1, rs2, imm } => ("Sb", Operands::Sources { rs1, rs2, imm }),
+        Instr::Sh { rs1, rs2, imm } => ("Sh", Operands::Sources { rs1, rs2, imm }),
+        Instr::Sw { rs1, rs2, imm } => ("Sw", Operands::Sources { rs1, rs2, imm }),
+        Instr::Sd { rs1, rs2, imm } => ("Sd", Operands::Sources { rs1, rs2, imm }),
         Instr::Addi { rd, rs1, imm } => ("Addi", Operands::Immediate { rd, rs1, imm }),
         Instr::Slti { rd, rs1, imm } => ("Slti", Operands::Immediate { rd, rs1, imm }),
         Instr::Sltiu { rd, rs1, imm } => ("Sltiu", Operands::Immediate { rd, rs1, imm }),
