@@ -24,7 +24,7 @@ Across before (s ∷ ss) = Apart s.return_address before × Across before ss
 flips : (a b : ℕ) → nat_eq a b ≡ false → nat_eq b a ≡ false
 flips a b differ = grind (arith, nat_tests, differ)
 
-apart_append : (a : ℕ) (xs ys : List SiteRow) → Apart a xs → Apart a ys → Apart a (xs ++ ys)
+pub apart_append : (a : ℕ) (xs ys : List SiteRow) → Apart a xs → Apart a ys → Apart a (xs ++ ys)
 apart_append a [] ys here there = there
 apart_append a (x ∷ xs) ys here there = (here.0, apart_append a xs ys here.1 there)
 

@@ -48,7 +48,7 @@ row_holds code_length previous before r same h back =
     (g.0, (g.1.0, (g.1.1.0, (g.1.1.1.0, (g.1.1.1.1.0, (variables, (g.1.1.1.1.1.1.0, continuations))))))) in
     subst (λ (x : ProcedureRecord). (procedure code_length previous).Holds x.row) back made
 
-last_behind : (before : List ProcedureRecord) (r : ProcedureRecord) → last_code (before ++ (r ∷ [])) ≡ Some r.row.code
+pub last_behind : (before : List ProcedureRecord) (r : ProcedureRecord) → last_code (before ++ (r ∷ [])) ≡ Some r.row.code
 last_behind [] r = refl
 last_behind (b ∷ []) r = refl
 last_behind (b ∷ c ∷ bs) r = last_behind (c ∷ bs) r
@@ -145,7 +145,7 @@ sites_append : (xs ys : List ProcedureRecord) → flat_map (λ r. r.sites) (xs +
 sites_append [] ys = refl
 sites_append (x ∷ xs) ys = ap (λ (t : List SiteRow). x.sites ++ t) (sites_append xs ys) ∙ sym (append_assoc x.sites (flat_map (λ r. r.sites) xs) (flat_map (λ r. r.sites) ys))
 
-sites_behind : (before : List ProcedureRecord) (r : ProcedureRecord) → flat_map (λ r. r.sites) (before ++ (r ∷ [])) ≡ flat_map (λ r. r.sites) before ++ r.sites
+pub sites_behind : (before : List ProcedureRecord) (r : ProcedureRecord) → flat_map (λ r. r.sites) (before ++ (r ∷ [])) ≡ flat_map (λ r. r.sites) before ++ r.sites
 sites_behind before r = sites_append before (r ∷ []) ∙ ap (λ (t : List SiteRow). flat_map (λ r. r.sites) before ++ t) (append-nil r.sites)
 
 are_apart : (code_length : ℕ) (before : List ProcedureRecord) (places : List VariablePlace) (continuations : ℕ) (previous : Option SiteRow) (ss : List SiteRow) →

@@ -13,4 +13,12 @@ mod SecondLaws
 mod DistinctLaws
 mod FirstLaws
 mod SecondRows
+mod JoinLaws
+mod BitLaws
+mod AgreeLaws
+mod MigrationLaws
+mod OnePlaceLaws
+mod DifferenceLaws
+mod OffsetLaws
+mod MigrationRows
 pub mod Shared

@@ -24,7 +24,7 @@ over_from a b (s ∷ ss) less from = (let low = from.0 in omega (arith, less, lo
 
 -- ---- one more
 
-put_front : (s : SiteRow) (ss : List SiteRow) → Over s.return_address ss → put_in s ss ≡ s ∷ ss
+pub put_front : (s : SiteRow) (ss : List SiteRow) → Over s.return_address ss → put_in s ss ≡ s ∷ ss
 put_front s [] over = refl
 put_front s (t ∷ ts) over =
     let less : nat_lt s.return_address t.return_address ≡ true = (let low = over.0 in grind (arith, nat_tests, low)) in
@@ -60,7 +60,7 @@ order_sorted (s ∷ ss) = put_sorted s (in_order ss) (order_sorted ss)
 
 -- ---- some of them
 
-over_kept : (keeps : SiteRow → Bool) (a : ℕ) (ss : List SiteRow) → Over a ss → Over a (filter keeps ss)
+pub over_kept : (keeps : SiteRow → Bool) (a : ℕ) (ss : List SiteRow) → Over a ss → Over a (filter keeps ss)
 over_kept keeps a [] over = tt
 over_kept keeps a (s ∷ ss) over = by (keeps s) refl (over_kept keeps a ss over.1)
   where

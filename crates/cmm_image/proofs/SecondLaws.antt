@@ -67,7 +67,7 @@ abbrev Kept : ℕ → List ProcedureRecord → Type 0
 Kept n [] = Unit {0}
 Kept n (r ∷ rs) = IsKept n r × Kept (suc n) rs
 
-abbrev AllUnder : List VariablePlace → List SiteRow → Type 0
+abbrev pub AllUnder : List VariablePlace → List SiteRow → Type 0
 AllUnder places [] = Unit {0}
 AllUnder places (s ∷ ss) = Under places s.variables × AllUnder places ss
 
@@ -79,7 +79,7 @@ module _ (code_length : ℕ) (before : List ProcedureRecord) (places : List Vari
   abbrev pub AreSites : Option SiteRow → List SiteRow → Type 0
   AreSites previous ss = AreRows (λ previous. (live_site code_length (length before) (addresses_of before) places continuations previous).Holds) previous ss
 
-  are_own : (previous : Option SiteRow) (ss : List SiteRow) → AreSites previous ss → AreOf (length before) ss
+  pub are_own : (previous : Option SiteRow) (ss : List SiteRow) → AreSites previous ss → AreOf (length before) ss
   are_own previous [] rows = tt
   are_own previous (s ∷ ss) rows = (rows.0.1.0, are_own (Some s) ss rows.1)
 
@@ -87,7 +87,7 @@ module _ (code_length : ℕ) (before : List ProcedureRecord) (places : List Vari
   are_rising previous [] rows = tt
   are_rising previous (s ∷ ss) rows = (rows.0.0.1.0, are_rising (Some s) ss rows.1)
 
-  are_under : (previous : Option SiteRow) (ss : List SiteRow) → AreSites previous ss → AllUnder places ss
+  pub are_under : (previous : Option SiteRow) (ss : List SiteRow) → AreSites previous ss → AllUnder places ss
   are_under previous [] rows = tt
   are_under previous (s ∷ ss) rows = (live-under places s.variables rows.0.1.1.1.1.1.1.1.1.1.0, are_under (Some s) ss rows.1)
 

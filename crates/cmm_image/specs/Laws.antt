@@ -1,12 +1,16 @@
 -- What holds of all bytes, and of all images.
-use Rattle.std.specs.Prelude.{◌≡◌, ℕ, ◌⊎◌, ◌++◌, ◌≤◌, List, Ok}
+use Rattle.std.specs.Prelude.{◌≡◌, ℕ, ◌⊎◌, ◌++◌, ◌<◌, ◌≤◌, ◌^◌, true, IsTrue, List, drop, slice_get, Some, Ok}
 use Rattle.std.specs.List.{All}
 use Rattle.cmm_rules.specs.declared.rule.Rule.{Rule}
 use Rattle.cmm_image.specs.declared.parts.ImageParts.{ImageParts}
+use Rattle.cmm_image.specs.declared.rows.SiteRow.{SiteRow}
+use Rattle.cmm_image.specs.declared.rows.VariablePlace.{VariablePlace}
 use Rattle.cmm_format.specs.Formats.{AreBytes}
 use Rattle.cmm_image.specs.ImageFormat.{Tables, first_tables, procedure_at}
-use Rattle.cmm_image.specs.SecondFormat.{second_tables}
+use Rattle.cmm_image.specs.SecondFormat.{is_live, second_tables}
 use Rattle.cmm_image.specs.InFrames.{KeepsFrame}
+use Rattle.cmm_image.specs.Migration.{HaveOnePlace, IsFirstDifference, differs, first_front, place_offset}
+use Rattle.cmm_image.specs.Places.{place_bytes}
 use Rattle.cmm_image.specs.Bounds.{BoundsRows}
 use Rattle.cmm_image.specs.Images.{IsImage, SpellsImage, IsFirstFault}
 
@@ -42,3 +46,30 @@ pub record SecondTablesAreRead : Type 0 where
 abbrev pub SecondKeepsFirst : Type 0
 SecondKeepsFirst = (code_length procedures sites : ℕ) (t : Tables) → 1 ≤ procedures → procedures ≤ 65535 → (second_tables code_length procedures sites).Holds t →
     (first_tables code_length procedures sites).Holds t
+
+-- what version 1's tables keep, those of version 2 keep where each variable has one place in its procedure
+abbrev pub FirstKeepsSecond : Type 0
+FirstKeepsSecond = (code_length procedures sites : ℕ) (t : Tables) → sites < 2 ^ 32 → (first_tables code_length procedures sites).Holds t → HaveOnePlace t.1 →
+    (second_tables code_length procedures sites).Holds t
+
+-- and nowhere else
+abbrev pub SecondHasOnePlace : Type 0
+SecondHasOnePlace = (code_length procedures sites : ℕ) (t : Tables) → (second_tables code_length procedures sites).Holds t → HaveOnePlace t.1
+
+-- of sites each variable has one place, or there is a first one with another place than before
+abbrev pub OnePlaceOrDifference : Type 0
+OnePlaceOrDifference = (sites : List SiteRow) → HaveOnePlace sites ⊎ ((k : ℕ) × (v : ℕ) × IsFirstDifference sites k v)
+
+-- sites have one first difference at most
+abbrev pub FirstDifferencesAreOne : Type 0
+FirstDifferencesAreOne = (sites : List SiteRow) (j k u v : ℕ) → IsFirstDifference sites j u → IsFirstDifference sites k v → (j ≡ k) × (u ≡ v)
+
+-- a variable that has another place than before has one
+abbrev pub DifferencesAreLive : Type 0
+DifferencesAreLive = (sites : List SiteRow) (k v : ℕ) → differs sites k v ≡ true →
+    (s : SiteRow) × (p : VariablePlace) × (slice_get sites k ≡ Some s) × (slice_get s.variables v ≡ Some p) × IsTrue (is_live p)
+
+-- at its offset in the bytes of version 1 stands the place of a variable at a site
+abbrev pub PlacesStandThere : Type 0
+PlacesStandThere = (i : ImageParts) (k v : ℕ) (s : SiteRow) (p : VariablePlace) (rest : List ℕ) → slice_get i.sites k ≡ Some s → slice_get s.variables v ≡ Some p →
+    (more : List ℕ) × (drop (place_offset i k v) (first_front i ++ rest) ≡ place_bytes p ++ more)

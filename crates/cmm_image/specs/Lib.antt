@@ -6,5 +6,6 @@ pub mod Images
 pub mod Sites
 pub mod InFrames
 pub mod Bounds
+pub mod Migration
 pub mod Laws
 pub mod inside

@@ -1,6 +1,6 @@
 //! Laws of the format: the contract of a function that does nothing.
 
-ghost use Rattle.cmm_image.specs.Laws.{EachMeansOneThing, ImagesAreOne, NoImageHasAFault, RowsAreBounded, SecondKeepsFirst, SecondTablesAreRead, SitesKeepFrames};
+ghost use Rattle.cmm_image.specs.Laws.{DifferencesAreLive, EachMeansOneThing, FirstDifferencesAreOne, FirstKeepsSecond, ImagesAreOne, NoImageHasAFault, OnePlaceOrDifference, PlacesStandThere, RowsAreBounded, SecondHasOnePlace, SecondKeepsFirst, SecondTablesAreRead, SitesKeepFrames};
 
 /// Bytes are one image, or they have a first fault, and never both.
 pub fn bytes_mean_one_thing()
@@ -28,4 +28,20 @@ pub fn second_tables_are_read()
 /// What version 2's tables of procedures and sites keep, those of version 1 keep.
 pub fn second_tables_keep_the_first()
     ensures { SecondKeepsFirst }
+{}
+
+/// What version 1's tables of procedures and sites keep, those of version 2 keep exactly where each variable has one place in its whole
+/// procedure.
+pub fn one_place_makes_second_tables()
+    ensures kept { FirstKeepsSecond }
+    ensures only { SecondHasOnePlace }
+{}
+
+/// Where not each variable has one place, there is one first site and variable with another place than before, and that place stands at
+/// its offset in the bytes of version 1.
+pub fn first_differences_are_told()
+    ensures told { OnePlaceOrDifference }
+    ensures one { FirstDifferencesAreOne }
+    ensures live { DifferencesAreLive }
+    ensures there { PlacesStandThere }
 {}
