@@ -1,7 +1,7 @@
 -- Bytes are put and taken.
 use Rattle.std.proofs.lemmas.Bool.{or_from}
 use Rattle.std.proofs.Common.{◌≡◌, ℕ, ◌+◌, ◌%◌, ◌<◌, ◌^◌, refl, sym, ◌∙◌, ap, subst, arith, pos, Some}
-use Rattle.std.specs.Prelude.{◌==◌, ◌||◌, Bool, true, false, IsTrue}
+use Rattle.std.specs.Prelude.{◌==◌, Bool, true, false, IsTrue}
 use Rattle.std.proofs.lemmas.Bool.Decides.{nat_tests}
 use Rattle.cmm_chain.specs.declared.frame.Location.{Location}
 use Rattle.cmm_chain.specs.declared.frame.Location.TheVariants.{Slot, Saved, Temp}

@@ -1,14 +1,14 @@
 -- A value is looked for by halves: control goes to the upper half or on into the lower one, and from each to one place where no span has the value.
-use Rattle.std.proofs.Common.{◌≡◌, ℕ, zero, suc, ◌+◌, ◌-◌, ◌*◌, ◌/◌, ◌<◌, ◌≤◌, ◌^◌, refl, sym, ◌∙◌, ap, subst, arith, List, [], ◌∷◌, ◌++◌, length, length-append, map, get_or, replicate, set, append_assoc, take, drop, pow-suc, true, false, Some}
+use Rattle.std.proofs.Common.{◌≡◌, ℕ, zero, suc, ◌+◌, ◌-◌, ◌*◌, ◌/◌, ◌≤◌, ◌^◌, refl, sym, ◌∙◌, ap, subst, arith, List, [], ◌∷◌, ◌++◌, length, length-append, map, get_or, replicate, set, append_assoc, take, drop, pow-suc, true, false, Some}
 use Rattle.std.specs.Prelude.{Bool, IsTrue, nat_le, nat_lt, not, slice_get}
 use Rattle.std.specs.List.{All}
 use Rattle.std.proofs.lemmas.List.{length-map}
 use Rattle.std.proofs.lemmas.Bool.Decides.{nat_tests}
 use Rattle.cmm_words.specs.declared.operators.Cmp.TheVariants.{Geu}
-use Rattle.rv_asm.proofs.Shared.{AreKept, kept_more, reaches_then, reaches_weaker}
+use Rattle.rv_asm.proofs.Shared.{kept_more, reaches_then, reaches_weaker}
 use Rattle.rv_asm.specs.Appending.{Then}
 use Rattle.rv_asm.specs.Assembly.{IsInner}
-use Rattle.rv_asm.specs.Parts.{Code, Does, taken, way}
+use Rattle.rv_asm.specs.Parts.{Code, Does, way}
 use Rattle.rv_asm.specs.Reaching.{Reaches}
 use Rattle.rv_asm.specs.declared.part.Label.{Label}
 use Rattle.rv_asm.specs.declared.part.Meaning.{Meaning}
@@ -16,13 +16,13 @@ use Rattle.rv_asm.specs.declared.part.Meaning.TheVariants.{Inner}
 use Rattle.rv_asm.specs.declared.part.Part.TheVariants.{Branch, Jump, Place}
 use Rattle.rv_table.specs.Bounds.{IsSound}
 use Rattle.rv_table.specs.Machine.{State}
-use Rattle.cmm_effects.proofs.Shared.{goes_choice, goes_weaker, keeps_same, leads_turns, reaches_more, reaches_sound, set_keeps, goes_keeps}
+use Rattle.cmm_effects.proofs.Shared.{goes_choice, goes_weaker, leads_turns, reaches_more, reaches_sound, set_keeps, goes_keeps}
 use Rattle.cmm_effects.specs.Changes.{Sets}
 use Rattle.cmm_effects.specs.Pieces.{Always, Leads}
 use Rattle.cmm_effects.specs.Ways.{Goes}
 use Rattle.cmm_select.proofs.Ranging.{branched, keeps_first_then}
 use Rattle.cmm_select.proofs.Spans.{any_span, halves, in_run_from_first, span_split}
-use Rattle.cmm_select.specs.Switches.{EndsLow, KeepsFirst, MakesInner}
+use Rattle.cmm_select.specs.Switches.{KeepsFirst, MakesInner}
 use Rattle.cmm_select.specs.inside.NumberRuns.{GoesInRun, run_address}
 use Rattle.cmm_select.specs.inside.Searches.{GoesFrom, GoesInSpans, Searches, ascend, behind, first_of, span_address}
 use Rattle.cmm_select.specs.declared.span.Span.{Span}

@@ -1,7 +1,7 @@
 -- What names a label: operands, and global registers.
 use Rattle.std.proofs.lemmas.Bool.{or_parts}
 use Rattle.std.proofs.Common.{◌≡◌, ◌≢◌, ℕ, ◌+◌, ◌<◌, ◌^◌, refl, sym, ◌∙◌, ap, subst, arith, pos, true, false}
-use Rattle.std.specs.Prelude.{◌==◌, ◌||◌, Bool, IsTrue}
+use Rattle.std.specs.Prelude.{◌==◌, IsTrue}
 use Rattle.rv_asm.specs.Appending.{Then}
 use Rattle.rv_asm.specs.Parts.{Code, Does}
 use Rattle.rv_asm.specs.declared.part.Label.{Label}

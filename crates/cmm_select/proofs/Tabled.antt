@@ -1,10 +1,10 @@
 -- Control goes by a number into a table of jumps.
-use Rattle.std.proofs.Common.{◌≡◌, ◌≢◌, ℕ, ◌+◌, ◌-◌, ◌*◌, ◌/◌, ◌%◌, ◌<◌, ◌≤◌, ◌^◌, ◌⊎◌, inl, inr, zero, suc, refl, sym, ◌∙◌, ap, subst, arith, List, [], ◌∷◌, length, true, false, Some, slice_get, get_or, pos, negsuc, ◌-ℤ◌}
+use Rattle.std.proofs.Common.{◌≡◌, ℕ, ◌+◌, ◌-◌, ◌*◌, ◌/◌, ◌%◌, ◌<◌, ◌≤◌, ◌^◌, ◌⊎◌, inl, inr, zero, suc, refl, sym, ◌∙◌, ap, subst, arith, List, [], ◌∷◌, length, true, false, Some, slice_get, get_or, pos, negsuc, ◌-ℤ◌}
 use Rattle.std.specs.Prelude.{◌&&◌, ◌==◌, Bool, nat_le, nat_lt, bit_and, if◌then◌else◌}
 use Rattle.std.proofs.lemmas.Bool.{and_parts}
 use Rattle.std.proofs.lemmas.Bool.Decides.{nat_tests}
 use Rattle.std.proofs.lemmas.Nat.{and_mask}
-use Rattle.std.proofs.lemmas.Option.{get_or_from_slice_get, slice_get-get_or, slice_get_within}
+use Rattle.std.proofs.lemmas.Option.{slice_get-get_or}
 use Rattle.rv_asm.proofs.Shared.{reaches_then, reaches_weaker, single_does}
 use Rattle.rv_asm.specs.Appending.{Then}
 use Rattle.rv_asm.specs.Parts.{Code, Does, Executes, Gives, GoesTo, way}
@@ -14,15 +14,13 @@ use Rattle.rv_asm.specs.declared.part.Label.{Label}
 use Rattle.rv_asm.specs.declared.part.Part.TheVariants.{Table}
 use Rattle.cmm_abi.specs.Registers.{is_scratch}
 use Rattle.rv_table.proofs.Shared.{with_register-0}
-use Rattle.rv_table.specs.Machine.{MemoryMap, Outcome, State, code_base, done, fetched, fetched_step, instruction_step, is_fetchable, with_jump}
+use Rattle.rv_table.specs.Machine.{MemoryMap, Outcome, State, code_base, instruction_step, is_fetchable, with_jump}
 use Rattle.rv_table.specs.Bounds.{IsSound}
-use Rattle.rv_table.specs.Row.{row}
-use Rattle.rv_table.specs.Words.{difference, flag, modulo, shifted_left, sum, upper}
+use Rattle.rv_table.specs.Words.{difference, flag, modulo, shifted_left, sum}
 use Rattle.rv_table.specs.declared.instruction.Instr.TheVariants.{Add, Addi, And, Auipc, Jalr, Slli, Sltiu}
 use Rattle.cmm_effects.proofs.Shared.{goes_keeps, keeps_then, leads_set, leads_then, leads_weaker, reaches_more, runs_of, set_keeps}
-use Rattle.cmm_effects.specs.Changes.{Keeps, Sets}
+use Rattle.cmm_effects.specs.Changes.{Sets}
 use Rattle.cmm_effects.specs.Pieces.{Always, Leads}
-use Rattle.cmm_effects.specs.Ways.{Goes}
 use Rattle.cmm_select.proofs.Places.{One}
 use Rattle.cmm_select.proofs.Ranging.{keeps_first_then}
 use Rattle.cmm_select.proofs.Wide.{modulo_same, wrapped_difference}

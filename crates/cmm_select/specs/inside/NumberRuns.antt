@@ -4,7 +4,6 @@ use Rattle.rv_asm.specs.Parts.{Code, way}
 use Rattle.rv_asm.specs.declared.part.Label.{Label}
 use Rattle.rv_table.specs.Machine.{State}
 use Rattle.cmm_abi.specs.declared.registers.TheConstants.{FIRST_SCRATCH, SECOND_SCRATCH}
-use Rattle.cmm_effects.specs.Changes.{Keeps}
 use Rattle.cmm_effects.specs.Pieces.{Always}
 use Rattle.cmm_effects.specs.Ways.{Goes}
 use Rattle.cmm_select.specs.Switches.{EndsLow, KeepsFirst}

@@ -1,5 +1,5 @@
 -- Ranges with their labels, among which a switch looks for its value.
-use Rattle.std.specs.Prelude.{ℕ, suc, ◌+◌, ◌^◌, ◌&&◌, nat_le, nat_lt, Bool, true, false, List, [], ◌∷◌, ◌++◌, length, map}
+use Rattle.std.specs.Prelude.{ℕ, suc, ◌+◌, ◌^◌, ◌&&◌, nat_le, nat_lt, Bool, true, List, [], ◌∷◌, ◌++◌, length, map}
 use Rattle.cmm_graph.specs.declared.node.Arm.{Arm}
 use Rattle.cmm_program.specs.declared.statement.Range.{Range}
 use Rattle.rv_asm.specs.Parts.{Code, way}

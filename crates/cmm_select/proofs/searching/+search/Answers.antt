@@ -1,4 +1,4 @@
-use Rattle.std.proofs.Common.{◌≡◌, ℕ, zero, suc, ◌+◌, ◌-◌, ◌*◌, ◌/◌, ◌≤◌, ◌^◌, ◌++◌, ◌∷◌, [], List, length, length-append, get_or, set, false, sym, ap, ◌∙◌, subst, arith, true}
+use Rattle.std.proofs.Common.{◌≡◌, ℕ, zero, suc, ◌+◌, ◌-◌, ◌*◌, ◌/◌, ◌≤◌, ◌^◌, ◌++◌, ◌∷◌, [], List, length, length-append, false, sym, ap, ◌∙◌, subst, arith, true}
 use Rattle.std.specs.List.{All}
 use Rattle.rv_asm.specs.Assembly.{IsInner}
 use Rattle.rv_asm.specs.Parts.{Does}
@@ -9,8 +9,7 @@ use Rattle.cmm_effects.proofs.Shared.{adds_part, adds_then, adds_weaker}
 use Rattle.cmm_effects.specs.Pieces.{Adds}
 use Rattle.cmm_select.proofs.Halving.{all_inner_more, by_halves, fresh_there, half_few, inner_more, made_count, made_inner, made_one, makes_one, makes_then, makes_weaker, searches_weaker, take_then_drop, then_end}
 use Rattle.cmm_select.proofs.Spans.{all_back, all_front, ascend_back, ascend_front, first_is}
-use Rattle.cmm_select.specs.Switches.{MakesInner}
-use Rattle.cmm_select.specs.inside.Searches.{GoesFrom, GoesInSpans, Searches, ascend, first_of}
+use Rattle.cmm_select.specs.inside.Searches.{GoesFrom, Searches, ascend, first_of}
 use Rattle.cmm_select.specs.declared.span.Span.{Span}
 use Rattle.cmm_select.proofs.searching.+search.Goals as goal
 

@@ -1,4 +1,4 @@
-use Rattle.std.proofs.Common.{◌≡◌, ◌∙◌, ◌∷◌, ◌++◌, [], List, map, ap, sym, take, get_or, arith}
+use Rattle.std.proofs.Common.{◌∙◌, ◌∷◌, ◌++◌, [], List, map, ap, sym, take, get_or, arith}
 use Rattle.std.proofs.lemmas.List.{take_all}
 use Rattle.rv_asm.specs.declared.part.Label.{Label}
 use Rattle.cmm_select.proofs.Ranging.{up_to}

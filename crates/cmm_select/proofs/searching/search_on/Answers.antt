@@ -1,9 +1,5 @@
-use Rattle.std.proofs.Common.{◌≡◌, ◌+◌, ◌-◌, ◌*◌, ◌++◌, ◌∷◌, [], length, length-append, false, sym, ap, ◌∙◌, subst, List, arith}
-use Rattle.std.specs.List.{All}
-use Rattle.rv_asm.specs.Assembly.{IsInner}
+use Rattle.std.proofs.Common.{◌+◌, ◌-◌, ◌*◌, length, arith}
 use Rattle.rv_asm.specs.Parts.{Does}
-use Rattle.rv_asm.specs.declared.part.Meaning.{Meaning}
-use Rattle.rv_asm.specs.declared.part.Meaning.TheVariants.{Inner}
 use Rattle.rv_asm.specs.declared.part.Part.TheVariants.{Place}
 use Rattle.cmm_effects.proofs.Shared.{adds_part, adds_then, adds_weaker}
 use Rattle.cmm_effects.specs.Pieces.{Adds}

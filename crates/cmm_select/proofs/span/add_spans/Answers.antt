@@ -1,4 +1,4 @@
-use Rattle.std.proofs.Common.{◌≡◌, ◌∙◌, ◌∷◌, ◌++◌, [], List, ap, sym, take, get_or, append_assoc, arith}
+use Rattle.std.proofs.Common.{◌∙◌, ◌∷◌, ◌++◌, [], List, ap, sym, take, get_or, append_assoc, arith}
 use Rattle.std.proofs.lemmas.List.{take_all}
 use Rattle.cmm_program.specs.declared.statement.Range.{Range}
 use Rattle.cmm_select.proofs.Ranging.{up_to}

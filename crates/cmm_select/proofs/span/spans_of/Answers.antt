@@ -1,4 +1,4 @@
-use Rattle.std.proofs.Common.{◌≡◌, ◌∙◌, ◌∷◌, ◌++◌, [], List, ap, sym, take}
+use Rattle.std.proofs.Common.{◌∙◌, ◌∷◌, ◌++◌, [], List, ap, sym, take}
 use Rattle.std.proofs.lemmas.List.{take_more}
 use Rattle.cmm_graph.specs.declared.node.Arm.{Arm}
 use Rattle.cmm_program.specs.declared.statement.Range.{Range}

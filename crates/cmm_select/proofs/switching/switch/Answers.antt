@@ -3,7 +3,6 @@ use Rattle.std.specs.List.{All}
 use Rattle.std.specs.List.Sorted.{IsPermutation}
 use Rattle.std.proofs.lemmas.List.Sorted.{All-permutation, length_permutation}
 use Rattle.rv_asm.specs.Assembly.{IsInner}
-use Rattle.rv_asm.specs.declared.part.Label.{Label}
 use Rattle.rv_asm.specs.declared.part.Meaning.{Meaning}
 use Rattle.cmm_effects.proofs.Shared.{adds_then, adds_weaker}
 use Rattle.cmm_effects.specs.Pieces.{Adds}
