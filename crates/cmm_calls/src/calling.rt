@@ -6,7 +6,7 @@ ghost use Rattle.rv_asm.specs.Assembly.{IsInner, IsTarget, table_limit};
 ghost use Rattle.rv_asm.specs.declared.part.Meaning.TheVariants.{Inner};
 ghost use Rattle.cmm_effects.specs.Pieces.{Adds};
 ghost use Rattle.cmm_select.specs.Operands.{IsOperand, most_for};
-ghost use Rattle.cmm_calls.specs.Calls.{Calls, CallsBy, CutsTo, HasExits, JumpsBy};
+ghost use Rattle.cmm_calls.specs.Calls.{Calls, CallsBy, CutsTo, HasExits, JumpsBy, exits_cost};
 ghost use Rattle.cmm_calls.specs.Frames.{CanBeMade};
 ghost use Rattle.rv_asm.specs.Appending.{AddsWords, IsBehind};
 ghost use Rattle.cmm_calls.specs.Values.{is_operand, parting_cost};
@@ -105,15 +105,18 @@ pub fn jump_by(
     Ok(())
 }
 
-/// Leads from a site on: to a label for each alternate exit, by a word each, and from behind these words to where the code goes on. An error
-/// is want of memory, and nothing is changed.
+/// Leads from a site on: to a label for each alternate exit, by a word each, and from behind these words to where the code goes on. A site without
+/// alternate exits has no word: control comes back to where the code goes on. An error is want of memory, and nothing is changed.
 pub fn lay_exits(asm: &mut Asm, exits: &[Label]) -> Result<(), AllocError>
     requires few { length exits.now ≤ table_limit }
     requires inner { All (IsInner asm.old.labels) exits.now }
-    ensures exits { OnOk result (Adds (3 * length exits.now + 1) asm.old.parts asm.new.parts (HasExits exits.now)) }
-    ensures words { OnOk result (AddsWords (length exits.now + 1) asm.old.parts asm.new.parts) }
+    ensures exits { OnOk result (Adds (exits_cost (length exits.now)) asm.old.parts asm.new.parts (HasExits exits.now)) }
+    ensures words { OnOk result (AddsWords (length exits.now) asm.old.parts asm.new.parts) }
     ensures labels { asm.new.labels ≡ asm.old.labels }
 {
+    if exits.is_empty() {
+        return Ok(());
+    }
     asm.table(exits)?;
     Ok(())
 }

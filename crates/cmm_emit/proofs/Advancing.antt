@@ -32,7 +32,7 @@ use Rattle.cmm_emit.specs.Costs.{total_cost}
 use Rattle.cmm_emit.specs.LaidNodes.{AreLaid, AreUnplaced, HaveSites, IsOwn, PlacesOwn, StandsHere}
 use Rattle.cmm_emit.specs.Naming.{label_at}
 use Rattle.cmm_emit.proofs.NodeLabels.{inner_target}
-use Rattle.cmm_emit.proofs.NodeSites.{site_stays}
+use Rattle.cmm_emit.proofs.NodeSites.{site_closed, site_stays}
 use Rattle.cmm_emit.specs.Standing.{IsReady, SiteStands}
 use Rattle.cmm_emit.proofs.Belonging.{IsOne, there_at, entry_label, first_label_grows, length-entry_labels, one_of}
 use Rattle.cmm_emit.proofs.Numbering.{label_from, length-labels_from}
@@ -361,7 +361,7 @@ module _ (p : Program) (procs : List Proc) (graphs : List Graph) (found : List P
 
   module _ (old mid new : List Part) (codes : HaveCodes procs graphs o n old) (placed : ArePlaced labels old) (added : Appends old mid (λ x from to. Unit {0}))
       (code : (k : ℕ) → k < length g.nodes → Codes mid (label_at c.nodes k) (StandsHere c o.targets g k))
-      (stands : (k : ℕ) (node : Node) → slice_get g.nodes k ≡ Some node → SiteStands c node.kind mid) (closed : new ≡ mid ++ Single Ebreak ∷ [])
+      (stands : (k : ℕ) (node : Node) → slice_get g.nodes k ≡ Some node → SiteStands false c node.kind mid) (closed : new ≡ mid ++ Single Ebreak ∷ [])
       (few : all_longest mid ≤ all_longest old + 4 * total_cost c o.targets g.nodes) where
     close : Appends mid new (λ x from to. Unit {0})
     close = appends_weaker (closing mid new closed) (λ x from to does. tt)
@@ -386,16 +386,16 @@ module _ (p : Program) (procs : List Proc) (graphs : List Graph) (found : List P
             (subst (λ (z : Context). Codes new (label_at z.nodes k) (StandsHere z o.targets g k)) is_c (codes_more (label_at c.nodes k) (code k within_g) close))
 
     sites_then : (q : ℕ) (d : Context) (h : Graph) (k : ℕ) (node : Node) → q < n + 1 → slice_get o.contexts q ≡ Some d → slice_get graphs q ≡ Some h →
-        slice_get h.nodes k ≡ Some node → SiteStands d node.kind new
+        slice_get h.nodes k ≡ Some node → SiteStands true d node.kind new
     sites_then q d h k node less is also there = by (grind arith)
       where
-        by : (q < n) ⊎ (q ≡ n) → SiteStands d node.kind new
-        by (inl before) = site_stays d node.kind (site_stays d node.kind (codes.sites q d h k node before is also there) added) close
+        by : (q < n) ⊎ (q ≡ n) → SiteStands true d node.kind new
+        by (inl before) = site_stays true d node.kind (site_stays true d node.kind (codes.sites q d h k node before is also there) added) close
         by (inr same) =
             let is_c : c ≡ d = some_same (sym one.is_context ∙ (ap (λ (z : ℕ). slice_get o.contexts z) (sym same) ∙ is)) in
             let is_g : g ≡ h = some_same (sym one.is_graph ∙ (ap (λ (z : ℕ). slice_get graphs z) (sym same) ∙ also)) in
-            subst (λ (z : Context). SiteStands z node.kind new) is_c
-            (site_stays c node.kind (stands k node (subst (λ (z : Graph). slice_get z.nodes k ≡ Some node) (sym is_g) there)) close)
+            subst (λ (z : Context). SiteStands true z node.kind new) is_c
+            (site_closed c node.kind mid (stands k node (subst (λ (z : Graph). slice_get z.nodes k ≡ Some node) (sym is_g) there)) closed)
 
     abbrev entry : Label
     entry = label_at c.nodes g.first.number

@@ -1,5 +1,5 @@
 -- Nodes with tokens enough have at most 32 instructions a token.
-use Rattle.std.proofs.Common.{◌≡◌, ◌⊎◌, inl, inr, ℕ, ◌+◌, ◌*◌, ◌^◌, ◌≤◌, ◌&&◌, ◌||◌, nat_le, nat_lt, Bool, true, false, refl, sym, ◌∙◌, ap, subst, List, [], ◌∷◌, ◌++◌, length, IsTrue, arith, lit≤}
+use Rattle.std.proofs.Common.{◌≡◌, ◌⊎◌, inl, inr, ℕ, zero, suc, ◌+◌, ◌*◌, ◌^◌, ◌≤◌, ◌&&◌, ◌||◌, nat_le, nat_lt, Bool, true, false, refl, sym, ◌∙◌, ap, subst, List, [], ◌∷◌, ◌++◌, length, IsTrue, arith, lit≤}
 use Rattle.std.proofs.lemmas.Bool.Decides.{nat_tests}
 use Rattle.std.proofs.lemmas.List.{length-map, length-append}
 use Rattle.std.specs.List.{flat_map}
@@ -24,6 +24,7 @@ use Rattle.cmm_graph.specs.declared.operand.Operand.{Operand}
 use Rattle.cmm_graph.specs.declared.operand.Operand.TheVariants as operand
 use Rattle.cmm_graph.specs.declared.operand.Rvalue.{Rvalue}
 use Rattle.cmm_graph.specs.declared.operand.Rvalue.TheVariants as rvalue
+use Rattle.cmm_calls.specs.Calls.{exits_cost}
 use Rattle.cmm_select.specs.Memory.{accesses}
 use Rattle.cmm_select.specs.Operators.{shifts_of}
 use Rattle.cmm_select.specs.Switches.{ranges_in}
@@ -132,6 +133,10 @@ few_narrow false = lit≤ tt
 few_shifts : (w : Width) → shifts_of w ≤ 2
 few_shifts w = subst (λ n. n ≤ 2) (sym (shifts_are w)) (few_narrow (nat_lt (bits w) 64))
 
+few_exits : (n : ℕ) → exits_cost n ≤ 3 * n + 1
+few_exits zero = omega arith
+few_exits (suc n) = omega arith
+
 -- ---- words in memory
 
 abbrev Few : Width → ℕ → Type 0
@@ -207,8 +212,8 @@ module _ (p : Context) (y : Targets) where
         omega (arith, few address, few value, few_accesses width aligned (grind (arith, is)), enough)
     kind_fits (Branch test then_ otherwise) is enough = omega (arith, few test.left, few test.right, few_shifts test.width, enough)
     kind_fits (Switch value arms otherwise) is enough = omega (arith, few value, ranges_are arms, enough)
-    kind_fits (Call site callee arguments exits) is enough = omega (arith, enough)
-    kind_fits (Yield site values exits) is enough = omega (arith, enough)
+    kind_fits (Call site callee arguments exits) is enough = omega (arith, few_exits (length exits.returns), enough)
+    kind_fits (Yield site values exits) is enough = omega (arith, few_exits (length exits.returns), enough)
     kind_fits (Jump callee arguments) is enough = omega (arith, passed arguments, small.saved, enough)
     kind_fits (Cut to arguments own) is enough = omega (arith, few to, enough)
     kind_fits (Return exit alternates results) is enough = omega (arith, passed results, small.saved, enough)

@@ -1,5 +1,5 @@
 -- Each site of a procedure stands in the code of the node that waits there, with the exits of the site behind it.
-use Rattle.std.proofs.Common.{◌≡◌, ℕ, ◌+◌, sym, ◌∙◌, ap, subst, List, length, Some, slice_get}
+use Rattle.std.proofs.Common.{◌≡◌, ℕ, ◌+◌, true, sym, ◌∙◌, ap, subst, List, length, Some, slice_get}
 use Rattle.std.proofs.lemmas.List.{length-map}
 use Rattle.std.proofs.lemmas.Option.{slice_get_within}
 use Rattle.rv_asm.specs.declared.part.Part.{Part}
@@ -28,7 +28,7 @@ pub record IsWaited (g : Graph) (n : ℕ) (site : Site) : Type 0 where
   pub at : ℕ
   pub node : Node
   pub is_there : slice_get g.nodes at ≡ Some node
-  pub stands : (c : Context) (parts : List Part) → SiteStands c node.kind parts → IsBehind (label_at c.sites n) (length site.returns + 1) parts
+  pub stands : (c : Context) (parts : List Part) → SiteStands true c node.kind parts → IsBehind (label_at c.sites n) (length site.returns + 1) parts
 
 module _ (q : Proc) (g : Graph) (n : ℕ) (site : Site) (is : slice_get q.sites n ≡ Some site) where
   -- with the exits of the site
@@ -41,7 +41,7 @@ module _ (q : Proc) (g : Graph) (n : ℕ) (site : Site) (is : slice_get q.sites 
       let count : length returns ≡ length site.returns = counted ∙ ap (λ (s : Site). length s.returns) one in
       subst (λ (m : ℕ). IsBehind (label_at c.sites n) (m + 1) parts) count (subst (λ (m : ℕ). IsBehind (label_at c.sites m) (length returns + 1) parts) number stands)
 
-  stands_at : (kind : NodeKind) → site_of kind ≡ Some (record { number = n }) → HasSite q g kind → (c : Context) (parts : List Part) → SiteStands c kind parts →
+  stands_at : (kind : NodeKind) → site_of kind ≡ Some (record { number = n }) → HasSite q g kind → (c : Context) (parts : List Part) → SiteStands true c kind parts →
       IsBehind (label_at c.sites n) (length site.returns + 1) parts
   stands_at (Call at callee arguments exits) waits has c parts stands =
       with_exits at has.site exits.returns c parts (cc) has.is_site (sym (length-map exits.returns (λ (k : ContinuationId). k.number)) ∙ ap (λ (ks : List ℕ). length ks) has.returns) stands

@@ -1,6 +1,6 @@
 -- A worked row: what is required beside the answers of `place_program` holds of a program with a call, and the site of the call stands behind it.
 --     main() { f(); return (7); }    f() { return (); }
-use Rattle.std.proofs.Common.{◌≡◌, ℕ, zero, suc, true, refl, sym, subst, arith, List, [], ◌∷◌, None, Some, slice_get}
+use Rattle.std.proofs.Common.{◌≡◌, ℕ, zero, suc, true, false, refl, sym, subst, arith, List, [], ◌∷◌, None, Some, slice_get}
 use Rattle.rv_asm.specs.Appending.{IsBehind}
 use Rattle.rv_asm.specs.declared.part.Label.{Label}
 use Rattle.rv_asm.specs.declared.part.Part.{Part}
@@ -89,18 +89,17 @@ main-parts =
     ∷ piece.Place (label 3)
     ∷ piece.Call (label 1)
     ∷ piece.Place (label 6)
-    ∷ piece.Table []
     ∷ piece.Place (label 4)
     ∷ piece.Single Ebreak
     ∷ piece.Place (label 5)
     ∷ piece.Single Ebreak
     ∷ []
 
-behind_call : IsBehind (label 6) 1 main-parts
+behind_call : IsBehind (label 6) 0 main-parts
 behind_call = record {
   front = piece.Place (label 2) ∷ piece.Single Ebreak ∷ piece.Place (label 3) ∷ [];
   part = piece.Call (label 1);
-  back = piece.Table [] ∷ piece.Place (label 4) ∷ piece.Single Ebreak ∷ piece.Place (label 5) ∷ piece.Single Ebreak ∷ [];
+  back = piece.Place (label 4) ∷ piece.Single Ebreak ∷ piece.Place (label 5) ∷ piece.Single Ebreak ∷ [];
   is = refl;
   long = omega arith;
   room = omega arith;
@@ -109,14 +108,14 @@ behind_call = record {
 site_stands : SitesStand main-context main-graph (true ∷ true ∷ true ∷ true ∷ []) None main-parts
 site_stands zero node is come =
     let e : record { tokens = 1; kind = Entry [] (n 1) } ≡ node = cc in
-    subst (λ (z : Node). SiteStands main-context z.kind main-parts) e tt
+    subst (λ (z : Node). SiteStands false main-context z.kind main-parts) e tt
 site_stands (suc zero) node is come =
     let e : record { tokens = 1; kind = Call (s 0) (code 1) [] (exits (n 2) [] [] []) } ≡ node = cc in
-    subst (λ (z : Node). SiteStands main-context z.kind main-parts) e behind_call
+    subst (λ (z : Node). SiteStands false main-context z.kind main-parts) e behind_call
 site_stands (suc (suc zero)) node is come =
     let e : record { tokens = 1; kind = CopyIn [] (n 3) } ≡ node = cc in
-    subst (λ (z : Node). SiteStands main-context z.kind main-parts) e tt
+    subst (λ (z : Node). SiteStands false main-context z.kind main-parts) e tt
 site_stands (suc (suc (suc zero))) node is come =
     let e : record { tokens = 1; kind = Return 0 0 (arg (num 7) ∷ []) } ≡ node = cc in
-    subst (λ (z : Node). SiteStands main-context z.kind main-parts) e tt
+    subst (λ (z : Node). SiteStands false main-context z.kind main-parts) e tt
 site_stands (suc (suc (suc (suc k)))) node is come = absurd (cc)

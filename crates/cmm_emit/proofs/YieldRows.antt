@@ -45,6 +45,10 @@ no_landing = refl
 costs : cost_of (context []) targets yielding ≡ 34
 costs = refl
 
+-- and 4 less where there is no exit but the normal one, for which there is no word
+costs_alone : cost_of (context []) targets (Yield (s 0) (num 7 ∷ num 8 ∷ []) (exits (n 1) [] [] [])) ≡ 30
+costs_alone = refl
+
 falls : falls_to yielding ≡ Some (n 1)
 falls = refl
 
@@ -60,7 +64,7 @@ parts =
     ∷ piece.Single Ebreak
     ∷ []
 
-stands : SiteStands (context (label 3 ∷ [])) yielding parts
+stands : SiteStands false (context (label 3 ∷ [])) yielding parts
 stands = record {
   front = piece.Place (label 2) ∷ piece.Single Ebreak ∷ [];
   part = piece.Call (label 1);

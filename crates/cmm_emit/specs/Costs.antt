@@ -19,6 +19,7 @@ use Rattle.cmm_select.specs.Memory.{accesses}
 use Rattle.cmm_select.specs.Operands.{most_for}
 use Rattle.cmm_select.specs.Operators.{shifts_of}
 use Rattle.cmm_select.specs.Switches.{ranges_in}
+use Rattle.cmm_calls.specs.Calls.{exits_cost}
 use Rattle.cmm_calls.specs.Frames.{entry_cost}
 use Rattle.cmm_calls.specs.Values.{parting_cost}
 use Rattle.cmm_emit.specs.declared.context.Context.{Context}
@@ -85,11 +86,11 @@ module _ (p : Context) (y : Targets) where
 
   -- with the jumps of the exits, which stand behind the call, and what leads on behind them
   abbrev pub call_cost : List Argument → Exits → ℕ
-  call_cost arguments exits = 12 * length arguments + callee_cost + (3 * length exits.returns + 2)
+  call_cost arguments exits = 12 * length arguments + callee_cost + (exits_cost (length exits.returns) + 1)
 
   -- with one that leads to the ECALL which calls the client
   abbrev pub yield_cost : List Operand → Exits → ℕ
-  yield_cost values exits = 12 * length values + 3 + (3 * length exits.returns + 2)
+  yield_cost values exits = 12 * length values + 3 + (exits_cost (length exits.returns) + 1)
 
   abbrev pub cut_cost : Operand → List Argument → ℕ
   cut_cost to arguments = operand_cost to + (12 * length arguments + 3)

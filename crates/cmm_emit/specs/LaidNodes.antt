@@ -105,7 +105,7 @@ HasCome placed None k = has placed k ≡ true
 
 -- the sites of such nodes stand behind the instructions by which these wait
 abbrev pub SitesStand : Context → Graph → List Bool → Option NodeId → List Part → Type 0
-SitesStand p g placed next parts = (k : ℕ) (node : Node) → slice_get g.nodes k ≡ Some node → HasCome placed next k → SiteStands p node.kind parts
+SitesStand p g placed next parts = (k : ℕ) (node : Node) → slice_get g.nodes k ≡ Some node → HasCome placed next k → SiteStands false p node.kind parts
 
 module _ (p : Context) (y : Targets) where
   -- the most instructions of those nodes of a list, numbered from one on, whose numbers pass a test

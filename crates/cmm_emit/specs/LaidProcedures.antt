@@ -1,5 +1,5 @@
 -- The code of a unit that is laid, procedure by procedure.
-use Rattle.std.specs.Prelude.{◌≡◌, ◌⊎◌, ℕ, ◌+◌, ◌*◌, ◌<◌, ◌≤◌, ◌^◌, false, IsTrue, List, ◌∷◌, [], ◌++◌, length, take, slice_get, slice_index_or, sum_by, Some}
+use Rattle.std.specs.Prelude.{◌≡◌, ◌⊎◌, ℕ, ◌+◌, ◌*◌, ◌<◌, ◌≤◌, ◌^◌, true, false, IsTrue, List, ◌∷◌, [], ◌++◌, length, take, slice_get, slice_index_or, sum_by, Some}
 use Rattle.std.specs.List.{All, list_all}
 use Rattle.rv_asm.specs.Appending.{Codes}
 use Rattle.rv_asm.specs.Assembly.{is_inner}
@@ -84,7 +84,7 @@ pub record HaveCodes (procs : List Proc) (graphs : List Graph) (o : Outline) (n 
   pub nodes : (q : ℕ) (c : Context) (g : Graph) (k : ℕ) → q < n → slice_get o.contexts q ≡ Some c → slice_get graphs q ≡ Some g → k < length g.nodes →
       Codes parts (label_at c.nodes k) (StandsHere c o.targets g k)
   pub sites : (q : ℕ) (c : Context) (g : Graph) (k : ℕ) (node : Node) → q < n → slice_get o.contexts q ≡ Some c → slice_get graphs q ≡ Some g →
-      slice_get g.nodes k ≡ Some node → SiteStands c node.kind parts
+      slice_get g.nodes k ≡ Some node → SiteStands true c node.kind parts
   pub order : AreInOrder (take n o.entries) parts
   pub closed : (parts ≡ []) ⊎ IsClosed parts
   pub size : all_longest parts ≤ 256 * tokens_of_first n procs

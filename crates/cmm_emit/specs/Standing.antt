@@ -76,11 +76,16 @@ abbrev pub inner_count : NodeKind → ℕ
 inner_count (Switch value arms otherwise) = ranges_in arms
 inner_count _ = 0
 
--- behind the instruction by which a node waits stands its site, with a word for each alternate exit and one more
-abbrev pub SiteStands : Context → NodeKind → List Part → Type 0
-SiteStands p (Call site callee arguments exits) parts = IsBehind (site_label p site) (length exits.returns + 1) parts
-SiteStands p (Yield site values exits) parts = IsBehind (site_label p site) (length exits.returns + 1) parts
-SiteStands p _ parts = Unit {0}
+-- so many words stand behind a site with n alternate exits: one for each, and one more where the procedure is closed
+abbrev pub site_words : Bool → ℕ → ℕ
+site_words false n = n
+site_words true n = n + 1
+
+-- they stand behind the instruction by which a node waits
+abbrev pub SiteStands : Bool → Context → NodeKind → List Part → Type 0
+SiteStands closed p (Call site callee arguments exits) parts = IsBehind (site_label p site) (site_words closed (length exits.returns)) parts
+SiteStands closed p (Yield site values exits) parts = IsBehind (site_label p site) (site_words closed (length exits.returns)) parts
+SiteStands closed p _ parts = Unit {0}
 
 -- ---- once it is finished
 

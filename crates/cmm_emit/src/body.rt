@@ -1,7 +1,7 @@
 //! The code of each kind of node, up to where control goes on at the node that it falls to. Each function's clause says what cmm_emit_laws requires of
 //! the node's code, whatever the node is to which it falls. An error is want of memory, and then some of the instructions may be there.
 
-ghost use Rattle.std.specs.Prelude.{◌≡◌, ◌-◌, IsTrue, OnOk};
+ghost use Rattle.std.specs.Prelude.{◌≡◌, ◌-◌, IsTrue, OnOk, false};
 ghost use Rattle.std.specs.List.{list_all};
 ghost use Rattle.cmm_graph.specs.declared.number.NodeId.{NodeId};
 ghost use Rattle.cmm_graph.specs.declared.node.NodeKind.TheVariants as kind;
@@ -167,7 +167,7 @@ pub(crate) fn body(
     requires waits { CanWait context.now kind.now asm.old.labels }
     ensures code { OnOk result (Adds (cost_of context.now targets.now kind.now - jump_of kind.now) asm.old.parts asm.new.parts (CodesOwn context.now targets.now kind.now)) }
     ensures labels { OnOk result (MakesInner (inner_count kind.now) (labels_with context.now kind.now asm.old.labels) asm.new.labels) }
-    ensures stands { OnOk result (SiteStands context.now kind.now asm.new.parts) }
+    ensures stands { OnOk result (SiteStands false context.now kind.now asm.new.parts) }
 {
     match kind {
         NodeKind::Entry { formals, .. } => {

@@ -5,7 +5,7 @@ ghost use Rattle.std.specs.List.{list_all};
 ghost use Rattle.cmm_effects.specs.Pieces.{Adds};
 ghost use Rattle.rv_asm.specs.Assembly.{IsTarget};
 ghost use Rattle.rv_asm.specs.declared.part.Meaning.TheVariants.{Inner};
-ghost use Rattle.cmm_calls.specs.Calls.{HasExits};
+ghost use Rattle.cmm_calls.specs.Calls.{HasExits, exits_cost};
 ghost use Rattle.rv_asm.specs.Appending.{AddsWords, IsBehind};
 ghost use Rattle.cmm_graph.specs.declared.node.NodeKind.TheVariants as kind;
 ghost use Rattle.cmm_graph.specs.declared.operand.Operand.{Operand as NodeOperand};
@@ -113,8 +113,8 @@ fn lay_landings(
 ) -> Result<(), AllocError>
     requires ready { IsReady asm.old.labels context.now targets.now }
     requires exits { IsTrue (can_come_back context.now exits.now) }
-    ensures exits { OnOk result (Adds (3 * length exits.now.returns + 1) asm.old.parts asm.new.parts (HasExits (landing_labels context.now exits.now.returns))) }
-    ensures words { OnOk result (AddsWords (length exits.now.returns + 1) asm.old.parts asm.new.parts) }
+    ensures exits { OnOk result (Adds (exits_cost (length exits.now.returns)) asm.old.parts asm.new.parts (HasExits (landing_labels context.now exits.now.returns))) }
+    ensures words { OnOk result (AddsWords (length exits.now.returns) asm.old.parts asm.new.parts) }
     ensures labels { asm.new.labels ≡ asm.old.labels }
 {
     let landings = landing_labels(alloc, context, exits.returns.as_slice())?;
@@ -133,8 +133,8 @@ pub(crate) fn lead_back(
 ) -> Result<(), AllocError>
     requires ready { IsReady asm.old.labels context.now targets.now }
     requires exits { IsTrue (can_come_back context.now exits.now) }
-    ensures leads { OnOk result (Adds (3 * length exits.now.returns + 2) asm.old.parts asm.new.parts (LeadsBack context.now exits.now)) }
-    ensures words { OnOk result (AddsWords (length exits.now.returns + 1) asm.old.parts asm.new.parts) }
+    ensures leads { OnOk result (Adds (exits_cost (length exits.now.returns) + 1) asm.old.parts asm.new.parts (LeadsBack context.now exits.now)) }
+    ensures words { OnOk result (AddsWords (length exits.now.returns) asm.old.parts asm.new.parts) }
     ensures labels { asm.new.labels ≡ asm.old.labels }
 {
     lay_landings(asm, alloc, context, targets, exits)?;
@@ -163,7 +163,7 @@ pub(crate) fn call_body(
     requires waits { slice_get asm.old.labels (site_label context.now site).number ≡ Some (Inner false) }
     ensures code { OnOk result (Adds (call_cost context.now targets.now arguments.now exits.now) asm.old.parts asm.new.parts (CodesWhole context.now targets.now (kind.Call site callee arguments.now exits.now))) }
     ensures labels { OnOk result (asm.new.labels ≡ slice_set asm.old.labels (site_label context.now site).number (Inner true)) }
-    ensures behind { OnOk result (IsBehind (site_label context.now site) (length exits.now.returns + 1) asm.new.parts) }
+    ensures behind { OnOk result (IsBehind (site_label context.now site) (length exits.now.returns) asm.new.parts) }
 {
     call_callee(asm, alloc, context, targets, callee, arguments, site)?;
     lead_back(asm, alloc, context, targets, exits)?;

@@ -175,7 +175,7 @@ fn lay_node(
     ensures ends { IfOk result (λ there. IfSome there (λ n. EndsAt context.now n placed.old placed.new asm.new.parts)) }
     ensures stays { IfOk result (λ there. IfNone there (placed.new ≡ placed.old)) }
     ensures labels { IfOk result (λ there. AreLabelsBehind context.now kind.now there asm.old.labels asm.new.labels) }
-    ensures stands { OnOk result (SiteStands context.now kind.now asm.new.parts) }
+    ensures stands { OnOk result (SiteStands false context.now kind.now asm.new.parts) }
 {
     body(asm, alloc, context, targets, kind)?;
     match falls_to(kind) {
@@ -283,7 +283,7 @@ pub fn lay_nodes(
     requires once { WaitApart graph.now }
     ensures ready { OnOk result (IsReady asm.new.labels context.now targets.now) }
     ensures code { OnOk result ((k : ℕ) → k < length graph.now.nodes → Codes asm.new.parts (label_at context.now.nodes k) (StandsHere context.now targets.now graph.now k)) }
-    ensures sites { OnOk result ((k : ℕ) (node : GraphNode) → slice_get graph.now.nodes k ≡ Some node → SiteStands context.now node.kind asm.new.parts) }
+    ensures sites { OnOk result ((k : ℕ) (node : GraphNode) → slice_get graph.now.nodes k ≡ Some node → SiteStands false context.now node.kind asm.new.parts) }
     ensures added { OnOk result (Appends asm.old.parts asm.new.parts (λ x from to. Unit {0})) }
     ensures places { OnOk result (PlacesOwn context.now asm.old.labels asm.new.labels) }
     ensures size { OnOk result (all_longest asm.new.parts ≤ all_longest asm.old.parts + 4 * total_cost context.now targets.now graph.now.nodes) }

@@ -61,7 +61,7 @@ pub(crate) fn yield_body(
     requires waits { slice_get asm.old.labels (site_label context.now site).number ≡ Some (Inner false) }
     ensures code { OnOk result (Adds (yield_cost context.now targets.now values.now exits.now) asm.old.parts asm.new.parts (CodesWhole context.now targets.now (kind.Yield site values.now exits.now))) }
     ensures labels { OnOk result (asm.new.labels ≡ slice_set asm.old.labels (site_label context.now site).number (Inner true)) }
-    ensures behind { OnOk result (IsBehind (site_label context.now site) (length exits.now.returns + 1) asm.new.parts) }
+    ensures behind { OnOk result (IsBehind (site_label context.now site) (length exits.now.returns) asm.new.parts) }
 {
     yield_values(asm, alloc, context, targets, site, values)?;
     lead_back(asm, alloc, context, targets, exits)?;

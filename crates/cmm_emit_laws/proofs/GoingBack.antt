@@ -115,7 +115,7 @@ module _ (s : Setting) (c : Compiled) (l : Launch) (f : Finished) (rest : ℕ �
         by None is_none normal =
             let last : exit ≡ length behind.labels = let past = past_all exits.returns exit is_none in omega (arith, past, within, behind.count) in
             reaches_weaker
-            (reaches_then (reaches_sound (behind.table.normal.runs.go u sound (pc ∙ omega (arith, last)) tt) sound)
+            (reaches_then (reaches_sound (behind.table.normal.go u sound (pc ∙ omega (arith, last)) tt) sound)
             (λ v there. reaches_more ((behind.normal n normal).go v there.1 there.0.0 tt) (λ w keeps. (keeps.0, keeps_then u v w there.0.1 keeps.1))))
             (omega arith) (omega arith) (λ w there. there)
 

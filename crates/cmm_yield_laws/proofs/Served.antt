@@ -139,7 +139,7 @@ module _ (line : LineUnseen) (s : Setting) (c : Compiled) (l : Launch) (f : Fini
         let counted : length behind.labels ≡ length site.returns =
         behind.count ∙ sym (length-map out.returns (λ (k : ContinuationId). k.number)) ∙ ap (λ (e : Exits). length (numbers_of e.returns)) (sym same) ∙ ap (λ (ks : List ℕ). length ks) has.2 in
         reaches_weaker
-        (reaches_then (reaches_sound (behind.table.normal.runs.go t resumed.sound (pc ∙ omega (arith, counted)) tt) resumed.sound)
+        (reaches_then (reaches_sound (behind.table.normal.go t resumed.sound (pc ∙ omega (arith, counted)) tt) resumed.sound)
         (λ v there. reaches_more (reaches_sound ((behind.normal after.node normal).go v there.1 there.0.0 tt) there.1)
         (λ w keeps. inl (stands_behind number out is_exits normal w keeps.0.0 (keeps_both t v w there.0.1 keeps.0.1) keeps.1))))
         (omega arith) (omega arith) (λ w there. there)

@@ -50,4 +50,4 @@ returns-in-None-clause-labels c = (c.body.new.asm.labels, c.in_ok-body.ensures.l
 
 pub returns-in_ok-there-in-Some-clause-stands : goal.returns-in_ok-there-in-Some-clause-stands
 returns-in_ok-there-in-Some-clause-stands c =
-    site_stays c.args.context.now c.args.kind.now c.in_ok-body.ensures.stands c.in_ok-there-in-Some.ensures.goes.appends
+    site_stays false c.args.context.now c.args.kind.now c.in_ok-body.ensures.stands c.in_ok-there-in-Some.ensures.goes.appends
