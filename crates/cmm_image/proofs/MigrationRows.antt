@@ -1,14 +1,15 @@
 -- Worked rows of places: two procedures and three sites, of which the first and the last are of the same procedure.
-use Rattle.std.proofs.Common.{◌≡◌, ℕ, zero, suc, ◌<◌, true, false, List, [], ◌∷◌, drop, take, Some, None, refl, arith}
+use Rattle.std.proofs.Common.{◌≡◌, ℕ, zero, suc, ◌<◌, true, false, List, [], ◌∷◌, drop, take, Some, None, Ok, refl, arith}
 use Rattle.cmm_words.specs.declared.width.Width.TheVariants.{W32}
 use Rattle.cmm_image.specs.declared.parts.ImageParts.{ImageParts}
 use Rattle.cmm_image.specs.declared.rows.ProcRow.{ProcRow}
 use Rattle.cmm_image.specs.declared.rows.SiteRow.{SiteRow}
 use Rattle.cmm_image.specs.declared.rows.VariablePlace.{VariablePlace}
 use Rattle.cmm_image.specs.declared.rows.VariablePlace.TheVariants.{Dead, Slot, Register}
-use Rattle.cmm_format.specs.Formats.{number_bytes, text_bytes}
+use Rattle.cmm_format.specs.Formats.{number_at, number_bytes, text_at, text_bytes}
 use Rattle.cmm_image.specs.Migration.{HaveOnePlace, IsFirstDifference, agree, differs, first_front, place_offset}
-use Rattle.cmm_image.specs.Places.{place_bytes}
+use Rattle.cmm_image.specs.Places.{place_at, place_bytes}
+use Rattle.cmm_image.specs.SecondFormat.{second_tables}
 use Rattle.cmm_image.specs.WholeImage.{image}
 
 -- a procedure with one variable of 32 bits
@@ -133,3 +134,16 @@ stands_there = refl
 stands_before : take 2 (drop (place_offset small 1 0) (first_front small)) ≡ place_bytes (Register 9)
 unfolding small procedure sites site number_bytes text_bytes
 stands_before = refl
+
+-- ---- in version 2 the one place comes back, and of two places the first alone
+
+procedures : List ProcRow
+procedures = procedure 0x10000 109 ∷ procedure 0x10008 110 ∷ []
+
+comes_back : (second_tables 24 2 3).at ((second_tables 24 2 3).spelled (procedures, sites Dead (Register 9) (Slot 8))) ≡ Ok ((procedures, sites Dead (Register 9) (Slot 8)), [])
+unfolding procedures procedure sites site number_at number_bytes text_at text_bytes place_at
+comes_back = refl
+
+is_lost : (second_tables 24 2 3).at ((second_tables 24 2 3).spelled (procedures, sites (Slot 0) (Register 9) (Slot 8))) ≡ Ok ((procedures, sites (Slot 0) (Register 9) (Slot 0)), [])
+unfolding procedures procedure sites site number_at number_bytes text_at text_bytes place_at
+is_lost = refl
