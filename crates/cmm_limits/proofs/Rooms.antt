@@ -7,6 +7,7 @@ use Rattle.cmm_ast.specs.declared.procedure.Room.{Room}
 use Rattle.cmm_ast.specs.declared.procedure.RoomForm.{RoomForm}
 use Rattle.cmm_ast.specs.declared.procedure.RoomForm.TheVariants as rooms
 use Rattle.cmm_program.specs.Layout.{end_of}
+use Rattle.cmm_program.specs.Typing.{is_alignment}
 use Rattle.cmm_program.proofs.Shared.{aligned_up-grows}
 use Rattle.cmm_rules.specs.declared.rule.Rule.TheVariants.{Limit}
 use Rattle.cmm_static_semantics.specs.declared.spot.Spot.{Spot}
