@@ -248,19 +248,54 @@ def inputs(cases):
 # ---- stack
 
 
+def nested(opening, depth, inner, closing="}"):
+    """What stands inside of so many brackets."""
+    return opening * depth + inner + closing * depth
+
+
+def ladder(brackets, operators):
+    """An expression of 7 with so many operators, each to the right of the one before, and brackets where no operator binds more tightly."""
+    signs = [f"{'7' if k == 0 else '0'} {'|^&<+*'[k % 6].replace('<', '<<')} " for k in range(operators)]
+    rungs = ["".join(signs[k : k + 6]) for k in range(0, operators, 6)]
+    if len(rungs) > brackets:
+        raise ValueError("more operators than these brackets can nest")
+    rungs += [""] * (brackets - len(rungs))
+    return "".join(rung + "(" for rung in rungs) + "0" + ")" * brackets
+
+
 def deepest_units():
-    """Units that nest as deep as the rules allow, each with its result, or with the line of its refusal."""
-    yield "brackets in an expression", f"export main; main() {{ return ({'(' * 198}7{')' * 198}); }}", 7
-    yield "blocks", f"export main; main() {{ {'if 1 == 1 { ' * 198} return (7); {'}' * 198} return (8); }}", 7
-    yield "operators", f"export main; main() {{ return (1{' + 1' * 500}); }}", 501
-    yield "signs", f"export main; main() {{ return ({'- ' * 500}7); }}", 7
+    """Units that nest as deep as the rules allow, each with its result: 200 brackets, in which those of a body and of a `return` count, and 500 operators."""
+    head, signs = "export main; main() { ", "- " * 500
+    if_, else_, arm, span = "if 1 == 1 { ", "if 1 == 0 { } else { ", "switch 1 { case 1: { ", "span 1 2 { "
+    yield "brackets in an expression", f"{head}return ({nested('(', 198, '7', ')')}); }}", 7
+    yield "blocks", f"{head}{nested(if_, 198, 'return (7); ')} return (8); }}", 7
+    yield "operators", f"{head}return (1{' + 1' * 500}); }}", 501
+    yield "signs", f"{head}return ({signs}7); }}", 7
+    yield "signs in brackets", f"{head}return ({nested('- - (', 198, signs[: 2 * 104] + '7', ')')}); }}", 7
+    yield "blocks round signs", f"{head}{nested(if_, 198, f'return ({signs}7); ')} return (8); }}", 7
+    sums = "1" + " + 1" * 500
+    yield "blocks round operators", f"{head}{nested(if_, 198, f'return ({sums}); ')} return (8); }}", 501
+    yield "blocks round operators to the right", f"{head}{nested(if_, 114, f'return ({ladder(84, 500)}); ')} return (8); }}", 7
+    yield "operators to the right", f"{head}return ({ladder(198, 500)}); }}", 7
+    brackets = nested("- - (", 100, signs[: 2 * 300] + "7", ")")
+    yield "blocks round brackets and signs", f"{head}{nested(if_, 98, f'return ({brackets}); ')} return (8); }}", 7
+    yield "blocks after else", f"{head}{nested(else_, 198, 'return (7); ')} return (8); }}", 7
+    yield "blocks after else round signs", f"{head}{nested(else_, 198, f'return ({signs}7); ')} return (8); }}", 7
     chain = " else ".join(f"if n == {k} {{ n = {k + 1}; }}" for k in range(199))
-    yield "a chain of else", f"export main; main() {{ bits64 n; n = 198; {chain} return (n); }}", 199
-    yield "spans", f"export main; main() {{ {'span 1 2 { ' * 198} return (7); {'}' * 198} return (8); }}", 7
+    yield "a chain of else", f"{head}bits64 n; n = 198; {chain} return (n); }}", 199
+    short = " else ".join(f"if n == {k} {{ n = {k + 1}; }}" for k in range(115))
+    yield "a chain of else, and operators to the right", f"{head}bits64 n; n = 200; {short} else {{ n = {ladder(83, 498)}; }} return (n); }}", 7
+    yield "spans", f"{head}{nested(span, 198, 'return (7); ')} return (8); }}", 7
+    yield "spans round signs", f"{head}{nested(span, 198, f'return ({signs}7); ')} return (8); }}", 7
     items = "span 1 2 { " * 197
     yield "spans around a procedure", f"export main; section \"text\" {{ {items} main() {{ return (7); }} {'}' * 197} }}", 7
-    arms = "switch 1 { case 1: { " * 99
-    yield "switches", f"export main; main() {{ {arms} return (7); {'} }' * 99} return (8); }}", 7
+    yield "switches", f"{head}{nested(arm, 99, 'return (7); ', '} }')} return (8); }}", 7
+    yield "switches round signs", f"{head}{nested(arm, 99, f'return ({signs}7); ', '} }')} return (8); }}", 7
+    yield "words in memory", f"{head}bits64 n; {if_.replace('1 {', '0 {')}n = {nested('- - bits64[', 197, signs[: 2 * 106] + '7', ']')}; }} return (7); }}", 7
+    yield "operators by name", f"{head}return ({nested('%neg(', 198, signs[: 2 * 302] + '7', ')')}); }}", 7
+    yield "signs in a call", f"{head}bits64 n; {nested(if_, 197, f'n = f({signs}7); ')} return (n); }} f(bits64 n) {{ return (n); }}", 7
+    yield "signs in a jump", f"{head}{nested(if_, 198, f'jump f({signs}7); ')} return (8); }} f(bits64 n) {{ return (n); }}", 7
+    yield "signs in a constant", f"const c = {nested('- - (', 200, signs[: 2 * 100] + '7', ')')}; {head}return (c); }}", 7
     constants = "".join(f"const c{k} = c{k + 1}; " for k in range(20_000))
     yield "constants, each by the next", f"export main; {constants}const c20000 = 7; main() {{ return (c0); }}", 7
     types = "".join(f"typedef t{k + 1} t{k}; " for k in range(20_000))

@@ -67,6 +67,7 @@ impl Parser<'_> {
     }
 
     /// An expression that stands in no other.
+    #[inline(never)]
     pub(crate) fn whole(&mut self) -> Result<Expr, Stop>
         ensures { Takes (λ fuel. readers.whole fuel) (point_of self.old) result (point_of self.new) }
     {
@@ -146,6 +147,7 @@ impl Parser<'_> {
 
     /// A name, or the word in memory whose type it names.
     #[cycle(expression)]
+    #[inline(never)]
     fn name_or_memory(&mut self) -> Result<ExprForm, Stop>
         ensures { Takes (λ fuel. readers.name_or_memory (readers.operand (pred fuel))) (point_of self.old) result (point_of self.new) }
     {
@@ -173,6 +175,7 @@ impl Parser<'_> {
 
     /// The operator that is next by its name, and its operands in brackets.
     #[cycle(expression)]
+    #[inline(never)]
     fn named(&mut self) -> Result<ExprForm, Stop>
         ensures { Takes (λ fuel. readers.named (pred fuel) (readers.operand (pred fuel))) (point_of self.old) result (point_of self.new) }
     {
@@ -197,6 +200,7 @@ impl Parser<'_> {
     }
 
     #[cycle(expression)]
+    #[inline(never)]
     pub(crate) fn bracketed(&mut self) -> Result<PrimForm, Stop>
         ensures { Takes (λ fuel. readers.bracketed (readers.operand (pred fuel))) (point_of self.old) result (point_of self.new) }
     {
@@ -208,6 +212,7 @@ impl Parser<'_> {
 
     /// The word in memory of this type, at the address that is next.
     #[cycle(expression)]
+    #[inline(never)]
     pub(crate) fn memory(&mut self, width: TypeName) -> Result<Memory, Stop>
         ensures { Takes (λ fuel. readers.memory (readers.operand (pred fuel)) width) (point_of self.old) result (point_of self.new) }
     {
@@ -224,6 +229,7 @@ impl Parser<'_> {
 }
 
 /// Two operands with an operator between them.
+#[inline(never)]
 fn joined(alloc: Global, left: Expr, operator: Infix, right: Expr) -> Result<Expr, AllocError>
     ensures { IfOk result (λ e. e ≡ readers.joined left operator right) }
 {

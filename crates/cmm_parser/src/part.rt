@@ -64,6 +64,7 @@ fn memory_token(memory: &Memory) -> u32
 
 impl Parser<'_> {
     /// A part that holds no block.
+    #[inline(never)]
     pub(crate) fn flat_part(&mut self) -> Result<PartForm, Stop>
         ensures { Takes (λ fuel. readers.flat_part fuel) (point_of self.old) result (point_of self.new) }
     {

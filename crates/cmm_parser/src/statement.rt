@@ -94,6 +94,7 @@ impl Parser<'_> {
 
     /// What stands after the block of an `if`.
     #[cycle(statement)]
+    #[inline(never)]
     fn otherwise(&mut self) -> Result<Otherwise, Stop>
         ensures { MayTakeChain readers.otherwise (point_of self.old) result (point_of self.new) }
     {
@@ -122,6 +123,7 @@ impl Parser<'_> {
 
     /// What follows a `switch`.
     #[cycle(statement)]
+    #[inline(never)]
     fn switch_form(&mut self) -> Result<StmtForm, Stop>
         ensures { TakesBlocks readers.switch_form (point_of self.old) result (point_of self.new) }
     {
@@ -177,6 +179,7 @@ impl Parser<'_> {
 
     /// What follows a `span`.
     #[cycle(statement)]
+    #[inline(never)]
     fn span_form(&mut self) -> Result<StmtForm, Stop>
         ensures { TakesBlocks readers.span_form (point_of self.old) result (point_of self.new) }
     {

@@ -78,6 +78,7 @@ impl Parser<'_> {
     }
 
     /// A number or a character, and after `::` its type.
+    #[inline(never)]
     pub(crate) fn literal(&mut self) -> Result<PrimForm, Stop>
         ensures { Takes (λ fuel. readers.literal) (point_of self.old) result (point_of self.new) }
     {
