@@ -4,7 +4,7 @@ ghost use Rattle.std.specs.Prelude.{◌≡◌, ◌≢◌, ◌<◌, ◌-◌, [], 
 ghost use Rattle.cmm_lexer.specs.Spellings.{keyword_number, number_of, reserved};
 
 /// A reserved word, which is no name.
-#[derive(Clone, Copy)]
+#[derive(Clone, Copy, PartialEq, Eq)]
 pub enum Keyword {
     Aborts,
     Align,

@@ -4,7 +4,7 @@ ghost use Rattle.std.specs.Prelude.{◌≡◌, ◌≢◌, ◌<◌, [], ◌∷◌
 ghost use Rattle.cmm_lexer.specs.Spellings.{symbol_number, number_of, symbols};
 
 /// A symbol.
-#[derive(Clone, Copy)]
+#[derive(Clone, Copy, PartialEq, Eq)]
 pub enum Symbol {
     OpenBrace,
     CloseBrace,
