@@ -5,16 +5,8 @@ use Rattle.std.proofs.lemmas.Bool.Decides.{nat_tests}
 use Rattle.cmm_image.specs.declared.rows.SiteRow.{SiteRow}
 use Rattle.cmm_image.specs.ImageFormat.{is_above}
 use Rattle.cmm_image.specs.SecondFormat.{in_order, put_in}
+use Rattle.cmm_image.specs.inside.Records.{Apart, Distinct}
 use Rattle.cmm_image.proofs.OrderLaws.{Rising}
-
--- an address apart from those of sites; sites apart from one another
-abbrev pub Apart : ℕ → List SiteRow → Type 0
-Apart a [] = Unit {0}
-Apart a (s ∷ ss) = (nat_eq a s.return_address ≡ false) × Apart a ss
-
-abbrev pub Distinct : List SiteRow → Type 0
-Distinct [] = Unit {0}
-Distinct (s ∷ ss) = Apart s.return_address ss × Distinct ss
 
 -- each of the second is apart from the first
 abbrev pub Across : List SiteRow → List SiteRow → Type 0

@@ -15,7 +15,8 @@ use Rattle.cmm_image.specs.declared.rows.VariablePlace.{VariablePlace}
 use Rattle.cmm_image.specs.ImageFormat.{Tables, continuation, first_tables, may_have_sites, procedure, procedure_at, procedure_with, site, site_lists_in, variable}
 use Rattle.cmm_image.specs.Places.{IsPlace, variable_place}
 use Rattle.cmm_image.specs.SecondFormat.{addresses_of, in_order, last_code, live_site, placed, placed_variable, procedure_record, record_fields, record_of, records_of, row_places, second_tables, tables_of}
-use Rattle.cmm_image.proofs.DistinctLaws.{Across, Distinct, Each, distinct_append, each_append, order_each, order_length, order_rises, rising_distinct, unlike_apart}
+use Rattle.cmm_image.specs.inside.Records.{Distinct}
+use Rattle.cmm_image.proofs.DistinctLaws.{Across, Each, distinct_append, each_append, order_each, order_length, order_rises, rising_distinct, unlike_apart}
 use Rattle.cmm_image.proofs.MaskLaws.{Under, live-under, under-length}
 use Rattle.cmm_image.proofs.OrderLaws.{Rising}
 use Rattle.cmm_image.proofs.SecondLaws.{are_rising}
@@ -156,7 +157,7 @@ are_apart code_length before places continuations previous (s ∷ ss) rows = (
   are_apart code_length before places continuations (Some s) ss rows.1,
 )
 
-all_distinct : (code_length procedures total : ℕ) (before rs : List ProcedureRecord) → Distinct (flat_map (λ r. r.sites) before) →
+pub all_distinct : (code_length procedures total : ℕ) (before rs : List ProcedureRecord) → Distinct (flat_map (λ r. r.sites) before) →
     AreRowsBehind (λ before. (procedure_record code_length procedures total before).Holds) before rs → Distinct (flat_map (λ r. r.sites) (before ++ rs))
 all_distinct code_length procedures total before [] distinct rows = subst (λ (xs : List ProcedureRecord). Distinct (flat_map (λ r. r.sites) xs)) (sym (append-nil before)) distinct
 all_distinct code_length procedures total before (r ∷ rs) distinct rows =

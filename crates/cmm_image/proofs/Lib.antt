@@ -12,6 +12,9 @@ mod OrderLaws
 mod SecondLaws
 mod DistinctLaws
 mod FirstLaws
+mod LiveLaws
+mod RecordLaws
+mod SortLaws
 mod SecondRows
 mod JoinLaws
 mod BitLaws

@@ -1,5 +1,5 @@
 -- Version 2's tables read what they spell and nothing else.
-use Rattle.std.proofs.Common.{◌≡◌, ℕ, suc, ◌+◌, ◌<◌, ◌≤◌, ◌==◌, ◌||◌, false, IsTrue, List, [], ◌∷◌, ◌++◌, length, map, flat_map, Option, Some, None, refl, sym, ap, subst, ◌∙◌, arith}
+use Rattle.std.proofs.Common.{◌≡◌, ℕ, suc, ◌+◌, ◌<◌, ◌≤◌, ◌==◌, ◌||◌, false, IsTrue, List, [], ◌∷◌, ◌++◌, length, map, flat_map, replicate, Option, Some, None, refl, sym, ap, subst, ◌∙◌, arith}
 use Rattle.std.specs.List.{zip}
 use Rattle.std.specs.Option.{option_map}
 use Rattle.std.proofs.lemmas.Bool.{eqb-true}
@@ -12,8 +12,9 @@ use Rattle.cmm_image.specs.declared.procedure_record.ProcedureRecord.{ProcedureR
 use Rattle.cmm_image.specs.declared.rows.SiteRow.{SiteRow}
 use Rattle.cmm_image.specs.declared.rows.VariableRow.{VariableRow}
 use Rattle.cmm_image.specs.declared.rows.VariablePlace.{VariablePlace}
+use Rattle.cmm_image.specs.declared.rows.VariablePlace.TheVariants.{Dead}
 use Rattle.cmm_image.specs.ImageFormat.{FieldsWith, above, formed, in_code, may_have_sites}
-use Rattle.cmm_image.specs.SecondFormat.{RecordFields, addresses_of, are_among, in_order, is_total, is_unlike, last_code, live_site, placed, placed_variable, places_among, procedure_record, record_fields, record_of, records_from, records_of, row_places, second_tables, sites_of, sites_of_record, tables_of}
+use Rattle.cmm_image.specs.SecondFormat.{RecordFields, addresses_of, are_among, in_order, is_total, is_unlike, last_code, live_site, placed, placed_variable, places_among, places_with, or_places, procedure_record, record_fields, record_of, records_from, records_of, row_places, second_tables, sites_of, sites_of_record, tables_of}
 use Rattle.cmm_image.proofs.ImageLaws.{lists_with-exact, procedure_with-exact, site_with-exact, variable-exact}
 use Rattle.cmm_image.proofs.MaskLaws.{Under, all_same, dead-under, live-under, live_places-exact, ors-under}
 use Rattle.cmm_image.proofs.OrderLaws.{AreOf, Rising, order_kept, order_rising, other_sites, own_sites}
@@ -43,13 +44,13 @@ zipped (v ∷ vs) = ap (λ (ws : List PlacedVariable). v ∷ ws) (zipped vs)
 fields_back : (x : RecordFields) → x.1.1 ≡ 0 → record_fields (record_of x) ≡ x
 fields_back ((code, (name, (frame, (return_at, (saved, (variables, (stack_labels, continuations))))))), (sites, end)) is = rw (zipped variables, is) refl
 
-record-exact : (code_length procedures total : ℕ) (before : List ProcedureRecord) → IsExact (procedure_record code_length procedures total before)
+pub record-exact : (code_length procedures total : ℕ) (before : List ProcedureRecord) → IsExact (procedure_record code_length procedures total before)
 record-exact code_length procedures total before = seen-exact record_of record_fields
     (then-exact (procedure_with-exact {variable = placed_variable} placed_variable-exact (λ frame p a. refl) code_length (last_code before)) λ (p : FieldsWith PlacedVariable).
     then-exact (sites_of_record-exact code_length before p) λ (sites : List SiteRow).
     when-exact (
     formed (λ n. n == 0)
-    ∷ formed (λ n. are_among (row_places p.1.1.1.1.1.0) (places_among (length p.1.1.1.1.1.0) sites))
+    ∷ formed (λ n. are_among (row_places p.1.1.1.1.1.0) (places_among (length (row_places p.1.1.1.1.1.0)) sites))
     ∷ formed (λ n. is_total procedures total before sites)
     ∷ []
     ) (number-exact _ 1))
@@ -71,9 +72,12 @@ abbrev pub AllUnder : List VariablePlace → List SiteRow → Type 0
 AllUnder places [] = Unit {0}
 AllUnder places (s ∷ ss) = Under places s.variables × AllUnder places ss
 
+with_under : (places known : List VariablePlace) (ss : List SiteRow) → Under places known → AllUnder places ss → Under places (places_with known ss)
+with_under places known [] under all = under
+with_under places known (s ∷ ss) under all = with_under places (or_places known s.variables) ss (ors-under places known s.variables under all.0) all.1
+
 among_under : (places : List VariablePlace) (ss : List SiteRow) → AllUnder places ss → Under places (places_among (length places) ss)
-among_under places [] all = dead-under places
-among_under places (s ∷ ss) all = ors-under places s.variables (places_among (length places) ss) all.0 (among_under places ss all.1)
+among_under places ss all = with_under places (replicate (length places) Dead) ss (dead-under places) all
 
 module _ (code_length : ℕ) (before : List ProcedureRecord) (places : List VariablePlace) (continuations : ℕ) where
   abbrev pub AreSites : Option SiteRow → List SiteRow → Type 0
@@ -100,9 +104,8 @@ is_kept code_length procedures total before r holds =
     let all = are_under code_length before (row_places vs) count None r.sites rows in
     let counted : length (row_places vs) ≡ length vs = length-map vs (λ v. v.place) in
     let under = among_under (row_places vs) r.sites all in
-    let there : IsTrue (are_among (row_places vs) (places_among (length vs) r.sites)) = holds.0.1.1.1.1.0 in
-    let found = all_same (row_places vs) (places_among (length (row_places vs)) r.sites) under
-    (subst (λ (n : ℕ). IsTrue (are_among (row_places vs) (places_among n r.sites))) (sym counted) there) in
+    let there : IsTrue (are_among (row_places vs) (places_among (length (row_places vs)) r.sites)) = holds.0.1.1.1.1.0 in
+    let found = all_same (row_places vs) (places_among (length (row_places vs)) r.sites) under there in
     let long : length (row_places vs) ≡ length r.row.variables = counted ∙ sym (length-map vs (λ v. v.row)) ∙ ap (λ (x : ProcedureRecord). length x.row.variables) holds.1 in
     record {
       own = are_own code_length before (row_places vs) count None r.sites rows;

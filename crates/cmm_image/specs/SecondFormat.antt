@@ -79,10 +79,14 @@ or_places [] qs = qs
 or_places (p ∷ ps) [] = p ∷ ps
 or_places (p ∷ ps) (q ∷ qs) = or_place p q ∷ or_places ps qs
 
+-- the place of each variable that has these places: its own, or that at the first of these sites where it is live
+abbrev pub places_with : List VariablePlace → List SiteRow → List VariablePlace
+places_with places [] = places
+places_with places (s ∷ ss) = places_with (or_places places s.variables) ss
+
 -- the place of each variable: that at the first of these sites where it is live
 abbrev pub places_among : ℕ → List SiteRow → List VariablePlace
-places_among variables [] = replicate variables Dead
-places_among variables (s ∷ ss) = or_places s.variables (places_among variables ss)
+places_among variables sites = places_with (replicate variables Dead) sites
 
 -- each of the first that is a place is one among the second
 abbrev pub are_among : List VariablePlace → List VariablePlace → Bool
@@ -124,11 +128,11 @@ sites_of_record code_length before (code, (name, (frame, (return_at, (saved, (va
     counted (u32 when (formed (λ n. (n == 0) || may_have_sites frame return_at) ∷ [])) (live_site code_length (length before) (addresses_of before) (row_places variables) (length continuations))
 
 -- the byte at the end of a procedure: each variable with a place is live at some site, and the sites are as many as the header says
-abbrev pub record_end : ℕ → ℕ → List ProcedureRecord → List PlacedVariable → List SiteRow → Format ℕ
-record_end procedures total before variables sites =
+abbrev pub record_end : ℕ → ℕ → List ProcedureRecord → List VariablePlace → List SiteRow → Format ℕ
+record_end procedures total before places sites =
     u8 when (
     formed (λ n. n == 0)
-    ∷ formed (λ n. are_among (row_places variables) (places_among (length variables) sites))
+    ∷ formed (λ n. are_among places (places_among (length places) sites))
     ∷ formed (λ n. is_total procedures total before sites)
     ∷ []
     )
@@ -143,7 +147,7 @@ abbrev pub procedure_record : ℕ → ℕ → ℕ → List ProcedureRecord → F
 procedure_record code_length procedures total before = seen_as record_of record_fields (
     procedure_with placed_variable code_length (last_code before)
     ▸ λ p. sites_of_record code_length before p
-    ▸ λ sites. record_end procedures total before (variables_of p) sites
+    ▸ λ sites. record_end procedures total before (row_places (variables_of p)) sites
     )
 
 -- ---- the tables

@@ -2,3 +2,4 @@ pub mod Reading
 pub mod Spellings
 pub mod Wholes
 pub mod Ascending
+pub mod Records

@@ -1,7 +1,7 @@
 //! What the numbers of a record are measured by.
 
 ghost use Rattle.std.specs.Prelude.{◌≡◌};
-ghost use Rattle.cmm_image.specs.ImageFormat.{has_sites, is_in_code, is_in_data, procedure_at};
+ghost use Rattle.cmm_image.specs.ImageFormat.{has_sites, may_have_sites, is_in_code, is_in_data, procedure_at};
 ghost use Rattle.cmm_image.specs.inside.Wholes.{bounds_in};
 
 use crate::rows::ProcRow;
@@ -46,6 +46,13 @@ pub(crate) fn is_code_address(length: u64, address: u64) -> bool
     CODE_BASE <= address && address - CODE_BASE < length && address % 4 == 0
 }
 
+/// Whether a procedure with this frame may have sites: 16 bytes of it, and the return address is saved.
+pub(crate) fn can_have_sites(frame: u32, return_at: Option<u32>) -> bool
+    ensures { result ≡ may_have_sites frame return_at }
+{
+    16 <= frame && return_at.is_some()
+}
+
 /// The procedures of an image, which its sites name.
 #[derive(Drop)]
 pub(crate) struct Procedures {
@@ -60,7 +67,7 @@ impl Procedures {
     {
         match self.rows.get(number as usize) {
             None => false,
-            Some(row) => 16 <= row.frame && row.return_at.is_some(),
+            Some(row) => can_have_sites(row.frame, row.return_at),
         }
     }
 

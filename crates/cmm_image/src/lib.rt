@@ -8,8 +8,8 @@
 //!   is among them.
 //! - `reading`, `fault`: `read_image`, and why there is no image. `writing`: `write_image`, `write_header`.
 //! - `bounds`: what the numbers of records are measured by. `widths`: widths as they are read.
-//! - `header`, `procedure`, `procedure_parts`, `site`, `site_parts`, `symbols`: the records as they are read. `procedure_record`: those of
-//!   procedures in version 2.
+//! - `header`, `procedure`, `procedure_parts`, `site`, `site_parts`, `symbols`: the records as they are read. `second_reading`,
+//!   `procedure_record`, `live_site`, `live`: those of version 2.
 //! - `row_bytes`: the records as they are written.
 //! - `laws`: what bytes are, an image or a first fault.
 //!
@@ -22,6 +22,8 @@ mod fault;
 mod header;
 mod image;
 pub mod laws;
+mod live;
+mod live_site;
 mod parts;
 mod procedure;
 mod procedure_parts;
@@ -30,6 +32,7 @@ mod reading;
 mod row_bytes;
 mod rows;
 mod search;
+mod second_reading;
 mod site;
 mod site_parts;
 mod symbols;

@@ -4,7 +4,7 @@ ghost use Rattle.std.specs.Prelude.{◌≡◌, ◌==◌, ◌%◌, [], ◌∷◌,
 ghost use Rattle.std.specs.Option.{option_map};
 ghost use Rattle.cmm_rules.specs.declared.rule.Rule.TheVariants.{ImageIsCut};
 ghost use Rattle.cmm_format.specs.Formats.{counted_at, optional, ◌when◌};
-ghost use Rattle.cmm_image.specs.ImageFormat.{procedure, saved_register, variable, stack_label, continuation, variable_number, width, u16, u32, u8, formed, within, is_above, no_return, is_return_offset};
+ghost use Rattle.cmm_image.specs.ImageFormat.{procedure, saved_register, variable, stack_label, continuation, variable_number, width, u16, u32, u64, u8, above, formed, in_code, within, is_above as is_number_above, no_return, is_return_offset};
 ghost use Rattle.cmm_format.specs.Reading.{Reads};
 
 use crate::bounds::Bounds;
@@ -34,10 +34,7 @@ impl Read<Bounds> for ProcRow {
         bounds: &Bounds,
         previous: Option<&ProcRow>,
     ) -> Result<ProcRow, Unread> {
-        let field = reader.left();
-        let code = reader.u64(Rule::ImageIsCut)?;
-        require(is_code_above(previous, code), Rule::BadImageField, field)?;
-        require(bounds.is_in_code(code), Rule::ImageOutOfRange, field)?;
+        let code = code_address(reader, bounds, code_of(previous))?;
         let name = reader.name(Rule::ImageIsCut)?;
         let frame = frame_size(reader)?;
         let return_at = return_offset(reader, frame)?;
@@ -59,17 +56,42 @@ impl Read<Bounds> for ProcRow {
     }
 }
 
-/// Whether an address is above that of the procedure before, if there is one.
-fn is_code_above(previous: Option<&ProcRow>, code: u64) -> bool
-    ensures { result ≡ is_above (option_map (λ p. p.code) (option_copied previous.entry)) code }
+/// The address of a procedure's code, if there is the procedure.
+fn code_of(row: Option<&ProcRow>) -> Option<u64>
+    ensures { result ≡ option_map (λ p. p.code) (option_copied row.entry) }
 {
-    match previous {
-        None => true,
-        Some(row) => row.code < code,
+    match row {
+        None => None,
+        Some(row) => Some(row.code),
     }
 }
 
-fn frame_size(reader: &mut Reader<'_>) -> Result<u32, Unread>
+/// The address of a procedure's code, behind the procedure whose code has the address `before`, if there is one.
+pub(crate) fn code_address(
+    reader: &mut Reader<'_>,
+    bounds: &Bounds,
+    before: Option<u64>,
+) -> Result<u64, Unread>
+    ensures { Reads result ((u64 when (above before ∷ in_code bounds.now.code_length ∷ [])).at reader.old.rest.now) reader.new.rest.now }
+{
+    let field = reader.left();
+    let code = reader.u64(Rule::ImageIsCut)?;
+    require(is_above(before, code), Rule::BadImageField, field)?;
+    require(bounds.is_in_code(code), Rule::ImageOutOfRange, field)?;
+    Ok(code)
+}
+
+/// Whether a number is above the one before, if there is one.
+fn is_above(before: Option<u64>, number: u64) -> bool
+    ensures { result ≡ is_number_above before number }
+{
+    match before {
+        None => true,
+        Some(before) => before < number,
+    }
+}
+
+pub(crate) fn frame_size(reader: &mut Reader<'_>) -> Result<u32, Unread>
     ensures { Reads result ((u32 when (formed (λ n. n % 16 == 0) ∷ within (λ n. nat_le n 0x10000000) ∷ [])).at reader.old.rest.now) reader.new.rest.now }
 {
     let field = reader.left();
@@ -79,7 +101,7 @@ fn frame_size(reader: &mut Reader<'_>) -> Result<u32, Unread>
     Ok(frame)
 }
 
-fn return_offset(reader: &mut Reader<'_>, frame: u32) -> Result<Option<u32>, Unread>
+pub(crate) fn return_offset(reader: &mut Reader<'_>, frame: u32) -> Result<Option<u32>, Unread>
     ensures { Reads result ((optional ImageIsCut 4 no_return (within (is_return_offset frame) ∷ [])).at reader.old.rest.now) reader.new.rest.now }
 {
     let field = reader.left();
@@ -95,8 +117,12 @@ fn return_offset(reader: &mut Reader<'_>, frame: u32) -> Result<Option<u32>, Unr
     Ok(Some(offset))
 }
 
-fn variables(reader: &mut Reader<'_>, bounds: &Bounds) -> Result<Items<VariableRow>, Unread>
-    ensures { Reads result (counted_at (u16 when (formed (λ n. nat_le n 1024) ∷ [])).at (λ previous. (variable previous).at) reader.old.rest.now) reader.new.rest.now }
+/// The variables of a procedure, at most 1,024.
+pub(crate) fn variables<V: Read<Bounds>>(
+    reader: &mut Reader<'_>,
+    bounds: &Bounds,
+) -> Result<Items<V>, Unread>
+    ensures { Reads result (counted_at (u16 when (formed (λ n. nat_le n 1024) ∷ [])).at (V.at bounds.now) reader.old.rest.now) reader.new.rest.now }
 {
     let field = reader.left();
     let count = reader.u16(Rule::ImageIsCut)?;
@@ -105,10 +131,10 @@ fn variables(reader: &mut Reader<'_>, bounds: &Bounds) -> Result<Items<VariableR
 }
 
 /// The continuations of a procedure with these variables.
-fn continuations(
+pub(crate) fn continuations<V>(
     reader: &mut Reader<'_>,
     bounds: &Bounds,
-    variables: &Items<VariableRow>,
+    variables: &Items<V>,
 ) -> Result<Items<ContinuationRow>, Unread>
     ensures { Reads result (counted_at u16.at (λ previous. (continuation bounds.now.code_length bounds.now.frame (length variables.now) previous).at) reader.old.rest.now) reader.new.rest.now }
 {

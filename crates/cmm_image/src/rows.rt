@@ -1,5 +1,9 @@
 //! The rows of an image's tables.
 
+ghost use Rattle.std.specs.Prelude.{◌≡◌, if◌then◌else◌};
+ghost use Rattle.cmm_image.specs.declared.rows.VariablePlace.TheVariants.{Dead};
+ghost use Rattle.cmm_image.specs.SecondFormat.{is_live};
+
 use cmm_items::Items;
 use cmm_words::{Name, Width};
 
@@ -83,6 +87,25 @@ pub enum VariablePlace {
     Slot(u32),
     /// In the callee-saves register of this number: 9, or 18 to 27.
     Register(u8),
+}
+
+impl VariablePlace {
+    /// Whether the variable is kept anywhere.
+    pub(crate) fn is_live(&self) -> bool
+        ensures { result ≡ is_live self.now }
+    {
+        match self {
+            VariablePlace::Dead => false,
+            VariablePlace::Slot(_) | VariablePlace::Register(_) => true,
+        }
+    }
+
+    /// This place of a variable that is live; none of one that is not.
+    pub(crate) fn where_live(&self, live: bool) -> VariablePlace
+        ensures { result ≡ (if live then self.now else Dead) }
+    {
+        if live { *self } else { VariablePlace::Dead }
+    }
 }
 
 /// What the innermost span with a token gives the site.

@@ -107,7 +107,7 @@ fn tail(reader: &mut Reader<'_>, bounds: &Bounds, return_address: u64) -> Result
 }
 
 /// Whether an address is above the return address of the site before, if there is one.
-fn is_return_above(previous: Option<&SiteRow>, address: u64) -> bool
+pub(crate) fn is_return_above(previous: Option<&SiteRow>, address: u64) -> bool
     ensures { result ≡ is_above (option_map (λ s. s.return_address) (option_copied previous.entry)) address }
 {
     match previous {
@@ -127,7 +127,7 @@ fn procedure_number(reader: &mut Reader<'_>, procedures: &Procedures) -> Result<
 }
 
 /// Whether a site never returns, and whether it aborts.
-fn exit_flags(reader: &mut Reader<'_>) -> Result<(bool, bool), Unread>
+pub(crate) fn exit_flags(reader: &mut Reader<'_>) -> Result<(bool, bool), Unread>
     ensures { Reads result (flags.at reader.old.rest.now) reader.new.rest.now }
 {
     let field = reader.left();
@@ -137,7 +137,7 @@ fn exit_flags(reader: &mut Reader<'_>) -> Result<(bool, bool), Unread>
 }
 
 /// How many values a site yields, if it is a yield.
-fn yield_values(reader: &mut Reader<'_>) -> Result<Option<u8>, Unread>
+pub(crate) fn yield_values(reader: &mut Reader<'_>) -> Result<Option<u8>, Unread>
     ensures { Reads result ((optional ImageIsCut 1 255 (formed (λ n. nat_le n 64) ∷ [])).at reader.old.rest.now) reader.new.rest.now }
 {
     let field = reader.left();
@@ -150,7 +150,7 @@ fn yield_values(reader: &mut Reader<'_>) -> Result<Option<u8>, Unread>
 }
 
 /// The widths of a site's results.
-fn results(reader: &mut Reader<'_>, bounds: &Bounds) -> Result<Items<Width>, Unread>
+pub(crate) fn results(reader: &mut Reader<'_>, bounds: &Bounds) -> Result<Items<Width>, Unread>
     ensures { Reads result (counted_at (u8 when (formed (λ n. nat_le n 64) ∷ [])).at (λ previous. width.at) reader.old.rest.now) reader.new.rest.now }
 {
     let field = reader.left();
@@ -160,7 +160,7 @@ fn results(reader: &mut Reader<'_>, bounds: &Bounds) -> Result<Items<Width>, Unr
 }
 
 /// The alternate exits of a site, behind whose jumps the normal return stands.
-fn returns(
+pub(crate) fn returns(
     reader: &mut Reader<'_>,
     bounds: &Bounds,
     return_address: u64,

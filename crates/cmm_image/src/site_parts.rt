@@ -5,7 +5,7 @@ ghost use Rattle.std.specs.Option.{option_map};
 ghost use Rattle.cmm_image.specs.ImageFormat.{continuation_number, unwind, span, width, is_above};
 ghost use Rattle.cmm_image.specs.Places.{variable_place, slot_at, register_at};
 ghost use Rattle.cmm_format.specs.Reading.{Reads};
-ghost use Rattle.cmm_image.specs.inside.Reading.{Places};
+ghost use Rattle.cmm_image.specs.inside.Reading.{ReadsFront};
 
 use crate::bounds::Bounds;
 use crate::procedure_parts::leaves;
@@ -113,7 +113,7 @@ impl Read<Bounds> for VariablePlace {
 
 /// A slot: its offset, in the field from which on `left` bytes are left.
 fn slot_of(rest: &[u8], frame: u32, field: usize) -> Result<(VariablePlace, &[u8]), Unread>
-    ensures { (bytes : List ℕ) → field ≡ length bytes → Places result (slot_at frame bytes rest.now) }
+    ensures { (bytes : List ℕ) → field ≡ length bytes → ReadsFront result (slot_at frame bytes rest.now) }
 {
     if rest.len() < 4 {
         return Err(broken(Rule::ImageIsCut, field));
@@ -125,7 +125,7 @@ fn slot_of(rest: &[u8], frame: u32, field: usize) -> Result<(VariablePlace, &[u8
 
 /// A register, in the field from which on `left` bytes are left.
 fn register_of(rest: &[u8], field: usize) -> Result<(VariablePlace, &[u8]), Unread>
-    ensures { (bytes : List ℕ) → field ≡ length bytes → Places result (register_at bytes rest.now) }
+    ensures { (bytes : List ℕ) → field ≡ length bytes → ReadsFront result (register_at bytes rest.now) }
 {
     match rest {
         [] => Err(broken(Rule::ImageIsCut, field)),

@@ -1,5 +1,7 @@
 -- What readings of several fields answer.
 use Rattle.std.specs.Prelude.{ℕ, ◌-◌, length}
+use Rattle.cmm_image.specs.declared.procedure_record.PlacedProcedure.{PlacedProcedure}
+use Rattle.cmm_image.specs.declared.procedure_record.PlacedVariable.{PlacedVariable}
 use Rattle.cmm_image.specs.declared.rows.ProcRow.{ProcRow}
 use Rattle.cmm_image.specs.declared.bounds.Bounds.{Bounds}
 use Rattle.cmm_image.specs.declared.header.RowCounts.{RowCounts}
@@ -9,7 +11,7 @@ use Rattle.cmm_image.specs.declared.fault.ImageFault.TheVariants.{At}
 use Rattle.cmm_image.specs.declared.fault.ImageFault.TheVariants as image_fault
 use Rattle.cmm_format.specs.declared.fault.Unread.{Unread}
 use Rattle.cmm_format.specs.declared.fault.Unread.TheVariants.{Breaks, Memory}
-use Rattle.cmm_image.specs.ImageFormat.{Counts, SiteLists}
+use Rattle.cmm_image.specs.ImageFormat.{Counts, FieldsWith, SiteLists}
 
 -- the counts of a header, as its format has them
 abbrev pub counts_seen : RowCounts → Counts
@@ -18,6 +20,10 @@ counts_seen c = (c.procedures, (c.sites, (c.labels, (c.globals, (c.main, 0)))))
 -- the lists of a site, as its format has them
 abbrev pub lists_seen : SiteTail → SiteLists
 lists_seen s = (s.returns, (s.unwinds, (s.cuts, (s.variables, s.spans))))
+
+-- the fields of a procedure up to its sites, as their format has them
+abbrev pub fields_seen : PlacedProcedure → FieldsWith PlacedVariable
+fields_seen p = (p.code, (p.name, (p.frame, (p.return_at, (p.saved, (p.variables, (p.stack_labels, p.continuations)))))))
 
 -- what the numbers of a site in a procedure are measured by
 abbrev pub bounds_in : Bounds → ProcRow → Bounds
