@@ -1,4 +1,6 @@
 //! The statements of a body, with numbers for names, and its call sites, in one walk in textual order.
+//!
+//! Blocks nest as deep as the rules allow, so what a level holds on the stack is kept small: functions that make a statement which holds no block are never inlined.
 
 ghost use Rattle.std.specs.Prelude.{◌≡◌, ◌<◌, ◌^◌, length, Option, IfOk, OnOk};
 ghost use Rattle.cmm_static_semantics.specs.Scopes.{senses};

@@ -67,6 +67,7 @@ fn sides_of<'a, N: Names>(
 }
 
 /// An assignment.
+#[inline(never)]
 pub(crate) fn assign_form<'a, N: Names>(
     alloc: Global,
     names: &BodyNames<'a, N>,
@@ -94,6 +95,7 @@ fn division(operator: Option<Operator>) -> Op2
 }
 
 /// A checked operator at a call site.
+#[inline(never)]
 pub(crate) fn checked_form<'a, N: Names>(
     alloc: Global,
     names: &BodyNames<'a, N>,
@@ -199,6 +201,7 @@ fn foreign_form<'a, N: Names>(
 }
 
 /// A call, foreign where a convention is said; else it has this number among the call sites.
+#[inline(never)]
 pub(crate) fn any_call_form<'a, N: Names>(
     alloc: Global,
     names: &BodyNames<'a, N>,
@@ -219,6 +222,7 @@ pub(crate) fn any_call_form<'a, N: Names>(
 }
 
 /// A jump.
+#[inline(never)]
 pub(crate) fn jump_form<'a, N: Names>(
     alloc: Global,
     names: &BodyNames<'a, N>,
@@ -277,6 +281,7 @@ fn passed(values: &Option<Items<Actual>>) -> &[Actual]
 }
 
 /// A return.
+#[inline(never)]
 pub(crate) fn return_form<'a, N: Names>(
     alloc: Global,
     names: &BodyNames<'a, N>,
@@ -292,6 +297,7 @@ pub(crate) fn return_form<'a, N: Names>(
 }
 
 /// A cut.
+#[inline(never)]
 pub(crate) fn cut_form<'a, N: Names>(
     alloc: Global,
     names: &BodyNames<'a, N>,

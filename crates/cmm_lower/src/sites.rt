@@ -145,6 +145,7 @@ fn checked_site<'a, N: Names>(
 }
 
 /// Adds the site of a statement that is a call site. Fails only for want of memory.
+#[inline(never)]
 pub(crate) fn add_site<'a, N: Names>(
     alloc: Global,
     names: &BodyNames<'a, N>,

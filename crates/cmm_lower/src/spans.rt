@@ -45,6 +45,7 @@ fn add_with(
 }
 
 /// The spans in force inside one more span, which takes the place of one of its own token. Fails only for want of memory.
+#[inline(never)]
 pub(crate) fn with_span(
     alloc: Global,
     span: SpanValue,

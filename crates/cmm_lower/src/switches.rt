@@ -70,6 +70,7 @@ fn ranges_of<'a, N: Names>(
 }
 
 /// The values that an arm is for, of a width. Fails only for want of memory.
+#[inline(never)]
 pub(crate) fn case_of<'a, N: Names>(
     alloc: Global,
     names: &BodyNames<'a, N>,
