@@ -82,7 +82,13 @@ fn after_datum<N: Names>(names: &N, form: &DatumForm, place: u64) -> Option<u64>
             initial,
         } => {
             let size = bytes_of(names, width);
-            laid(DATA_LIMIT, place, size, size, data_count(names, count, initial))
+            laid(
+                DATA_LIMIT,
+                place,
+                size,
+                size,
+                data_count(names, count, initial),
+            )
         }
     }
 }

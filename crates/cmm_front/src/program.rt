@@ -12,10 +12,10 @@ ghost use Rattle.cmm_front.specs.Refusing.{IsFaultOf, IsRefused};
 use crate::fault::FrontFault;
 use crate::tokens::tokens_of;
 use crate::trees::trees_of;
+use cmm_check_units::check_units;
 use cmm_items::Items;
 use cmm_lower::lower;
 use cmm_program::Program;
-use cmm_check_units::check_units;
 use std::alloc::Global;
 
 /// The program that units mean, in range and with room in an image, by the bytes of each (C-- Language Specification 2.0, compilation units). Where they

@@ -79,11 +79,7 @@ fn new_address(
         field,
     )?;
     require(is_unlike(of.earlier, address), Rule::BadImageField, field)?;
-    require(
-        of.bounds.is_in_code(address),
-        Rule::ImageOutOfRange,
-        field,
-    )?;
+    require(of.bounds.is_in_code(address), Rule::ImageOutOfRange, field)?;
     Ok(address)
 }
 

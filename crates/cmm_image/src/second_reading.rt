@@ -192,7 +192,11 @@ fn tables_of(
     let mut rows = Vec::new(alloc);
     let mut sites = Vec::new(alloc);
     for next in records {
-        let ProcedureRecord { row, sites: own, .. } = next;
+        let ProcedureRecord {
+            row,
+            sites: own,
+            ..
+        } = next;
         rows.push(row)?;
         sites.append(&mut own.into_vec())?;
     }
