@@ -1,4 +1,4 @@
-use Rattle.std.proofs.Common.{sym, refl, arith}
+use Rattle.std.proofs.Common.{sym, refl, arith, false}
 use Rattle.std.proofs.lemmas.Bool.Decides.{nat_tests}
 use Rattle.cmm_effects.proofs.Shared.{adds_then, adds_weaker}
 use Rattle.cmm_emit.proofs.NodeLabels.{laid_made, laid_with, ready_made, ready_with}
