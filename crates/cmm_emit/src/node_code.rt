@@ -4,7 +4,7 @@
 //! turn at most, and each node stands once.
 
 ghost use Rattle.std.specs.Prelude.{◌≡◌, ℕ, OnOk, IfOk, IfNone, IfSome, IsTrue, Some, None, true, false, length, replicate, slice_get, [], ◌∷◌, ◌++◌, ◌+◌, ◌*◌, ◌<◌, ◌≤◌, ◌^◌};
-ghost use Rattle.std.specs.List.{list_all};
+ghost use Rattle.std.specs.List.{All, list_all};
 ghost use Rattle.cmm_bitset.specs.Sets.{has};
 ghost use Rattle.rv_asm.specs.Appending.{Appends, Codes};
 ghost use Rattle.rv_asm.specs.Sizes.{all_longest};
@@ -263,8 +263,44 @@ fn lay_from(
     Ok(())
 }
 
-/// Lays the code of a procedure: each node of its graph behind its label, the first one first. Labels of nodes and of sites are made for it and have
-/// no place yet. Each node is laid once, so that all are at most as long as their costs say.
+/// Lays those of some nodes that have no place yet, and behind each what falls behind it.
+fn lay_each(
+    asm: &mut Asm,
+    alloc: Global,
+    context: &Context,
+    targets: &Targets,
+    graph: &Graph,
+    nodes: &[NodeId],
+    placed: &mut BitSet,
+) -> Result<(), AllocError>
+    requires ready { IsReady asm.old.labels context.now targets.now }
+    requires laid { AreLaid asm.old.labels context.now placed.old }
+    requires size { length context.now.nodes ≡ length graph.now.nodes }
+    requires kinds { IsTrue (list_all (λ node. has_kind context.now targets.now node.kind) graph.now.nodes) }
+    requires nodes { All (λ n. IsTrue (has_node context.now n)) nodes.now }
+    requires sites { HaveSites context.now }
+    requires once { WaitApart graph.now }
+    requires waits { SitesWait context.now graph.now asm.old.labels placed.old None }
+    requires have { HaveCode context.now targets.now graph.now placed.old None asm.old.parts }
+    requires stand { SitesStand context.now graph.now placed.old None asm.old.parts }
+    ensures ready { OnOk result (IsReady asm.new.labels context.now targets.now) }
+    ensures laid { OnOk result (AreLaid asm.new.labels context.now placed.new) }
+    ensures waits { OnOk result (SitesWait context.now graph.now asm.new.labels placed.new None) }
+    ensures have { OnOk result (HaveCode context.now targets.now graph.now placed.new None asm.new.parts) }
+    ensures stand { OnOk result (SitesStand context.now graph.now placed.new None asm.new.parts) }
+    ensures each { OnOk result (All (λ n. has placed.new n.number ≡ true) nodes.now) }
+    ensures added { OnOk result (Appends asm.old.parts asm.new.parts (λ x from to. Unit {0})) }
+    ensures places { OnOk result (PlacesOwn context.now asm.old.labels asm.new.labels) }
+    ensures size { OnOk result (size_with context.now targets.now graph.now asm.new.parts placed.new None ≤ size_with context.now targets.now graph.now asm.old.parts placed.old None) }
+{
+    for node in nodes {
+        lay_from(asm, alloc, context, targets, graph, *node, placed)?;
+    }
+    Ok(())
+}
+
+/// Lays the code of a procedure: each node of its graph behind its label, the first one first, and then the landings of its continuations with what they fall to, so that a landing
+/// needs no jump to its code. Labels of nodes and of sites are made for it and have no place yet. Each node is laid once, so that all are at most as long as their costs say.
 pub fn lay_nodes(
     asm: &mut Asm,
     alloc: Global,
@@ -278,6 +314,7 @@ pub fn lay_nodes(
     requires few { length graph.now.nodes < 2 ^ 32 }
     requires kinds { IsTrue (list_all (λ node. has_kind context.now targets.now node.kind) graph.now.nodes) }
     requires first { IsTrue (has_node context.now graph.now.first) }
+    requires landings { All (λ n. IsTrue (has_node context.now n)) graph.now.continuations }
     requires sites { HaveSites context.now }
     requires unplaced { AreUnplaced asm.old.labels context.now }
     requires once { WaitApart graph.now }
@@ -298,6 +335,8 @@ pub fn lay_nodes(
         graph.first,
         &mut placed,
     )?;
+    let landings = graph.continuations.as_slice();
+    lay_each(asm, alloc, context, targets, graph, landings, &mut placed)?;
     for number in (0..graph.nodes.len()).rev() {
         let first = NodeId {
             number: number as u32,

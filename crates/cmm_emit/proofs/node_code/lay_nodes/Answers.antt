@@ -20,16 +20,28 @@ lay_from-requires-clause-waits c =
     none_placed c.args.context.now c.args.targets.now c.args.graph.now c.requires.kinds c.args.asm.now.labels c.in_ok-placed.placed c.requires.unplaced
 
 pub returns-clause-added : goal.returns-clause-added
-returns-clause-added c = appends_weaker (appends_then c.in_ok-lay_from.ensures.added c.loop-number.invariant.5) (λ x from to does. tt)
+returns-clause-added c =
+    appends_weaker (appends_then c.in_ok-lay_from.ensures.added (appends_then c.in_ok-lay_each.ensures.added c.loop-number.invariant.5)) (λ x from to does. tt)
 
 pub returns-clause-places : goal.returns-clause-places
 returns-clause-places c =
-    own_then c.args.context.now c.args.asm.now.labels c.lay_from.new.asm.labels c.loop-number.asm.labels c.in_ok-lay_from.ensures.places c.loop-number.invariant.6
+    let p = c.args.context.now in
+    own_then p c.args.asm.now.labels c.lay_from.new.asm.labels c.loop-number.asm.labels c.in_ok-lay_from.ensures.places
+    (own_then p c.lay_from.new.asm.labels c.lay_each.new.asm.labels c.loop-number.asm.labels c.in_ok-lay_each.ensures.places c.loop-number.invariant.6)
 
 pub loop-number-init : goal.loop-number-init
 loop-number-init c =
-    let e = c.in_ok-lay_from.ensures in
-    (e.ready, e.laid, e.waits, e.have, λ k least less. absurd (omega (arith, least, less)), appends_weaker (appends_none c.lay_from.new.asm.parts) (λ x from to is. tt), own_none c.args.context.now c.lay_from.new.asm.labels, omega arith, e.stand)
+    let e = c.in_ok-lay_each.ensures in (
+      e.ready,
+      e.laid,
+      e.waits,
+      e.have,
+      λ k least less. absurd (omega (arith, least, less)),
+      appends_weaker (appends_none c.lay_each.new.asm.parts) (λ x from to is. tt),
+      own_none c.args.context.now c.lay_each.new.asm.labels,
+      omega arith,
+      e.stand,
+    )
 
 pub loop-number-preserved : goal.loop-number-preserved
 loop-number-preserved c =
@@ -41,7 +53,7 @@ loop-number-preserved c =
       e.have,
       from_below (λ k. has c.lay_from-in-loop-number.new.placed k ≡ true) c.loop-number.number _ (λ k least less. e.grows k (inv.4 k least less)) e.first,
       appends_weaker (appends_then inv.5 e.added) (λ x from to does. tt),
-      own_then c.args.context.now c.lay_from.new.asm.labels c.loop-number.asm.labels c.lay_from-in-loop-number.new.asm.labels inv.6 e.places,
+      own_then c.args.context.now c.lay_each.new.asm.labels c.loop-number.asm.labels c.lay_from-in-loop-number.new.asm.labels inv.6 e.places,
       omega (arith, e.size, inv.7),
       e.stand,
     )
@@ -53,7 +65,7 @@ returns-clause-code c k less =
 pub returns-clause-size : goal.returns-clause-size
 returns-clause-size c =
     let p = c.args.context.now in
-    omega (arith, c.in_ok-lay_from.ensures.size, c.loop-number.invariant.7, come_few p c.args.targets.now c.in_ok-placed.placed None c.args.graph.now.nodes)
+    omega (arith, c.in_ok-lay_from.ensures.size, c.in_ok-lay_each.ensures.size, c.loop-number.invariant.7, come_few p c.args.targets.now c.in_ok-placed.placed None c.args.graph.now.nodes)
 
 pub lay_from-requires-in-loop-number-clause-stand : goal.lay_from-requires-in-loop-number-clause-stand
 lay_from-requires-in-loop-number-clause-stand c = c.loop-number.invariant.8
@@ -62,3 +74,6 @@ pub returns-clause-sites : goal.returns-clause-sites
 returns-clause-sites c k node is =
     c.loop-number.invariant.8 k node is
     (c.loop-number.invariant.4 k (omega arith) (slice_get_within c.args.graph.now.nodes k node is))
+
+pub lay_each-requires-clause-nodes : goal.lay_each-requires-clause-nodes
+lay_each-requires-clause-nodes c = rw c.as_slice-landings.ensures c.requires.landings

@@ -1,4 +1,7 @@
-use Rattle.std.proofs.Common.{◌<◌, refl, sym, subst, arith, length}
+use Rattle.std.proofs.Common.{◌<◌, refl, sym, subst, arith, length, IsTrue}
+use Rattle.std.proofs.lemmas.List.Elements.{All-weaker}
+use Rattle.cmm_graph.specs.declared.number.NodeId.{NodeId}
+use Rattle.cmm_emit.specs.Naming.{has_node}
 use Rattle.std.proofs.lemmas.Bool.Decides.{nat_tests}
 use Rattle.rv_asm.specs.declared.part.Meaning.{Meaning}
 use Rattle.std.proofs.Common.{List}
@@ -83,6 +86,20 @@ lay_nodes-requires-clause-first c =
     let count = nodes_counted p procs graphs found o c.requires.outline.is_outline c.requires.outline.can c.args.number g one c.args.asm.now.labels c.requires.labels in
     let less : g.first.number < length one.context.nodes = omega (arith, inside, count) in
     grind (arith, nat_tests, less)
+
+pub lay_nodes-requires-clause-landings : goal.lay_nodes-requires-clause-landings
+lay_nodes-requires-clause-landings c =
+    let p = c.args.program.now in
+    let o = c.args.outline.now in
+    let procs = own o p.procs in
+    let graphs = own o c.args.graphs.now in
+    let found = own o c.requires.outline.found in
+    let g = c.index-graphs-outline.result in
+    let one = one_read p c.args.graphs.now c.requires.outline.found o c.requires.outline.is_outline c.requires.outline.can c.args.number c.requires.number c.as_slice.result.now c.index-as_slice-number.result
+    c.as_slice.ensures c.index-as_slice-number.is c.args.graphs.now g refl c.index-graphs-outline.is in
+    let count = nodes_counted p procs graphs found o c.requires.outline.is_outline c.requires.outline.can c.args.number g one c.args.asm.now.labels c.requires.labels in
+    All-weaker (λ (n : NodeId). n.number < length g.nodes) (λ (n : NodeId). IsTrue (has_node one.context n))
+    (λ n inside. let less : n.number < length one.context.nodes = omega (arith, inside, count) in grind (arith, nat_tests, less)) g.continuations one.can.landings
 
 pub lay_nodes-requires-clause-sites : goal.lay_nodes-requires-clause-sites
 lay_nodes-requires-clause-sites c =

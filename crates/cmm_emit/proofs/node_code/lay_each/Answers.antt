@@ -1,0 +1,56 @@
+use Rattle.std.proofs.Common.{◌≡◌, ℕ, ◌+◌, ◌<◌, inl, inr, get_or, length, subst, true, arith, IsTrue}
+use Rattle.std.proofs.lemmas.Bool.{cases_lt}
+use Rattle.std.proofs.lemmas.List.Elements.{All-from_get_or, All-get_or}
+use Rattle.rv_asm.proofs.Shared.{appends_none, appends_then, appends_weaker}
+use Rattle.cmm_bitset.specs.Sets.{has}
+use Rattle.cmm_graph.specs.declared.number.NodeId.{NodeId}
+use Rattle.cmm_emit.proofs.Own.{own_none, own_then}
+use Rattle.cmm_emit.specs.Naming.{has_node}
+use Rattle.cmm_emit.proofs.node_code.lay_each.Goals as goal
+
+-- what holds below a number and of it holds below the next
+up_to : (P : ℕ → Type 0) (n : ℕ) → ((k : ℕ) → k < n → P k) → P n → (k : ℕ) → k < n + 1 → P k
+up_to P n before here k less = elim (cases_lt k n) [
+  | inl below ↦ before k below
+  | inr is ↦ subst P (omega (arith, less, is)) here
+]
+
+pub loop-node-init : goal.loop-node-init
+loop-node-init c = record {
+  ready = c.requires.ready;
+  laid = c.requires.laid;
+  waits = c.requires.waits;
+  have = c.requires.have;
+  stand = c.requires.stand;
+  each = λ k less. absurd (omega (arith, less));
+  added = appends_weaker (appends_none c.args.asm.now.parts) (λ x from to is. tt);
+  places = own_none c.args.context.now c.args.asm.now.labels;
+  size = omega arith;
+}
+
+pub loop-node-preserved : goal.loop-node-preserved
+loop-node-preserved c =
+    let e = c.in_ok-lay_from.ensures in
+    let inv = c.loop-node.invariant in
+    record {
+      ready = e.ready;
+      laid = e.laid;
+      waits = e.waits;
+      have = e.have;
+      stand = e.stand;
+      each = λ k less. up_to (λ k. has c.lay_from.new.placed (get_or c.args.nodes.now k (record { number = 0 })).number ≡ true) c.loop-node.node-index
+          (λ k before. e.grows (get_or c.args.nodes.now k (record { number = 0 })).number (inv.each k before)) e.first k (omega (arith, less));
+      added = appends_weaker (appends_then inv.added e.added) (λ x from to does. tt);
+      places = own_then c.args.context.now c.args.asm.now.labels c.loop-node.asm.labels c.lay_from.new.asm.labels inv.places e.places;
+      size = omega (arith, e.size, inv.size);
+    }
+
+pub lay_from-requires-clause-first : goal.lay_from-requires-clause-first
+lay_from-requires-clause-first c =
+    All-get_or (λ (n : NodeId). IsTrue (has_node c.args.context.now n)) c.args.nodes.now c.loop-node.node-index (record { number = 0 }) c.loop-node-test.true c.requires.nodes
+
+pub returns-clause-each : goal.returns-clause-each
+returns-clause-each c =
+    let past = c.loop-node-test.false in
+    All-from_get_or (λ (n : NodeId). has c.loop-node.placed n.number ≡ true) c.args.nodes.now (record { number = 0 })
+    (λ k less. c.loop-node.invariant.each k (omega (arith, less, past)))
