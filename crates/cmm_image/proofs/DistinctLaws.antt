@@ -13,7 +13,7 @@ abbrev pub Across : List SiteRow → List SiteRow → Type 0
 Across before [] = Unit {0}
 Across before (s ∷ ss) = Apart s.return_address before × Across before ss
 
-flips : (a b : ℕ) → nat_eq a b ≡ false → nat_eq b a ≡ false
+pub flips : (a b : ℕ) → nat_eq a b ≡ false → nat_eq b a ≡ false
 flips a b differ = grind (arith, nat_tests, differ)
 
 pub apart_append : (a : ℕ) (xs ys : List SiteRow) → Apart a xs → Apart a ys → Apart a (xs ++ ys)

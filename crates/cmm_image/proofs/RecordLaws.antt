@@ -21,6 +21,7 @@ use Rattle.cmm_image.specs.SecondFormat.{addresses_of, last_code, live_site, pla
 use Rattle.cmm_image.specs.inside.Ascending.{address_at}
 use Rattle.cmm_image.specs.inside.Reading.{ReadsFront}
 use Rattle.cmm_image.specs.inside.Records.{Apart, AreNew, Distinct}
+use Rattle.cmm_image.proofs.DistinctLaws.{flips}
 use Rattle.cmm_image.proofs.FirstLaws.{all_distinct, sites_behind}
 use Rattle.cmm_image.proofs.SecondLaws.{record-exact}
 
@@ -81,9 +82,6 @@ pub more_distinct : (totals : Totals) (before : List ProcedureRecord) (next : Pr
 more_distinct totals before next bytes rest fits read distinct =
     let taken = (record-exact totals.bounds.code_length totals.procedures totals.sites before).taken bytes next rest fits read in
     (all_distinct totals.bounds.code_length totals.procedures totals.sites before (next ∷ []) distinct (taken.1, tt), taken.2)
-
-flips : (a b : ℕ) → nat_eq a b ≡ false → nat_eq b a ≡ false
-flips a b differ = grind (arith, nat_tests, differ)
 
 apart_at : (a : ℕ) (sites : List SiteRow) (k : ℕ) → Apart a sites → k < length sites → nat_eq a (address_at sites k) ≡ false
 apart_at a [] k apart less = absurd (omega (arith, less))
