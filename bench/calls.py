@@ -3,7 +3,7 @@
 
 Usage: bench/calls.py [PROGRAM], at the top of the repository; PROGRAM is the built `cmm`, crates/cmm/out/cmm by default, which `rt ci` leaves there.
 
-Calls are counted here, by the same recursion; the rest is counted as bench/counted.py says. C is compiled by gcc for RV64IM at -O0.
+Calls are counted here, by the same recursion; the rest is counted as bench/counted.py says. C is compiled by gcc for RV64IM, at -O0 and at -O1.
 """
 import sys
 import tempfile
@@ -88,16 +88,17 @@ def calls_of_ackermann(m, n):
 
 def main(program="crates/cmm/out/cmm"):
     cases = [(*FIBONACCI, calls_of_fibonacci(20)), (*ACKERMANN, calls_of_ackermann(2, 100)), (*MUTUAL, 100 * 1001)]
-    print("| calls | calls | instructions a call | gcc -O0 | calls per second |\n|---|---|---|---|---|")
+    print("| calls | calls | instructions a call | gcc -O0 | gcc -O1 | calls per second |\n|---|---|---|---|---|---|")
     with tempfile.TemporaryDirectory() as folder:
         process, _ = seconds([program, "exec", written(folder, "a.cmm", SUM)])
         for what, unit, source, calls in cases:
             path = written(folder, "a.cmm", unit)
             count, result = instructions(program, path)
-            plain, in_c = instructions_in_c(folder, f"typedef unsigned long u64;\n{source}\n", "-O0")
-            assert result == in_c, (what, result, in_c)
+            in_c = [instructions_in_c(folder, f"typedef unsigned long u64;\n{source}\n", level) for level in ("-O0", "-O1")]
+            assert {result} == {answer for _, answer in in_c}, (what, result, in_c)
             took, _ = seconds([program, "exec", path])
-            print(f"| {what} | {calls:,} | {count / calls:.1f} | {plain / calls:.1f} | {calls / (took - process) / 1e6:.2f} million |", flush=True)
+            counts = " | ".join(f"{of / calls:.1f}" for of in (count, *(of for of, _ in in_c)))
+            print(f"| {what} | {calls:,} | {counts} | {calls / (took - process) / 1e6:.2f} million |", flush=True)
 
 
 if __name__ == "__main__":
