@@ -16,6 +16,7 @@ mod LiveLaws
 mod RecordLaws
 mod SortLaws
 mod SecondRows
+mod SecondByteLaws
 mod JoinLaws
 mod BitLaws
 mod AgreeLaws

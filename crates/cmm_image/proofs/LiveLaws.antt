@@ -47,7 +47,7 @@ joined front group (Ok x) = ap (λ (xs : List VariablePlace). Ok (xs, x.1)) (sym
 joined front group (Err b) = refl
 
 -- the first eight, or all where there are fewer, and the others
-groups : (places : List VariablePlace) (m : ℕ) → m ≡ min (length places) 8 → (take m places ≡ take 8 places) × (drop m places ≡ drop 8 places)
+pub groups : (places : List VariablePlace) (m : ℕ) → m ≡ min (length places) 8 → (take m places ≡ take 8 places) × (drop m places ≡ drop 8 places)
 groups places m is =
     elim (cases_lt (length places) 8) [
       | inl few ↦

@@ -3,3 +3,4 @@ pub mod Spellings
 pub mod Wholes
 pub mod Ascending
 pub mod Records
+pub mod SecondSpellings

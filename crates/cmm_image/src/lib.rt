@@ -10,7 +10,7 @@
 //! - `bounds`: what the numbers of records are measured by. `widths`: widths as they are read.
 //! - `header`, `procedure`, `procedure_parts`, `site`, `site_parts`, `symbols`: the records as they are read. `second_reading`,
 //!   `procedure_record`, `live_site`, `live`: those of version 2.
-//! - `row_bytes`: the records as they are written.
+//! - `row_bytes`: the records as they are written. `second_bytes`: those of version 2.
 //! - `laws`: what bytes are, an image or a first fault.
 //!
 //! The format is one table, `specs/ImageFormat`, a line a field, over the kinds of field of `cmm_format` and `specs/Places`; `specs/Images`
@@ -32,6 +32,7 @@ mod reading;
 mod row_bytes;
 mod rows;
 mod search;
+mod second_bytes;
 mod second_reading;
 mod site;
 mod site_parts;

@@ -4,7 +4,7 @@ ghost use Rattle.std.specs.Prelude.{◌≡◌, ◌++◌, None, [], OnOk};
 ghost use Rattle.cmm_image.specs.ImageFormat.{saved_register, variable, stack_label, variable_number, continuation, procedure, continuation_number, unwind, span, site, label, global, width, one_if, flags_number, no_return, u8};
 ghost use Rattle.cmm_format.specs.Formats.{counted, optional_number};
 ghost use Rattle.cmm_image.specs.Places.{place_bytes};
-ghost use Rattle.cmm_image.specs.inside.Spellings.{procedure_lists, site_row_lists};
+ghost use Rattle.cmm_image.specs.inside.Spellings.{exits, procedure_head, procedure_lists, site_head, site_row_lists};
 
 use crate::procedure::NO_RETURN;
 use crate::rows::{
@@ -39,7 +39,7 @@ impl Write for VariableRow {
 }
 
 /// 1 for true.
-fn flag(set: bool) -> u8
+pub(crate) fn flag(set: bool) -> u8
     ensures { result ≡ one_if set }
 {
     if set { 1 } else { 0 }
@@ -75,12 +75,19 @@ impl Write for ProcRow {
     ghost spelled = { (procedure 0 None).spelled };
 
     fn write(&self, out: &mut Vec<u8>) -> Result<(), AllocError> {
-        put_u64(out, self.code)?;
-        put_name(out, &self.name)?;
-        put_u32(out, self.frame)?;
-        put_u32(out, or_no_return(self.return_at))?;
+        put_procedure_head(out, self)?;
         put_procedure_lists(out, self)
     }
+}
+
+/// The fields of a procedure's record before its lists.
+pub(crate) fn put_procedure_head(out: &mut Vec<u8>, row: &ProcRow) -> Result<(), AllocError>
+    ensures { OnOk result (out.new.items ≡ out.old.items ++ procedure_head row.now) }
+{
+    put_u64(out, row.code)?;
+    put_name(out, &row.name)?;
+    put_u32(out, row.frame)?;
+    put_u32(out, or_no_return(row.return_at))
 }
 
 /// The lists of a procedure's record.
@@ -154,23 +161,37 @@ impl Write for SiteRow {
     fn write(&self, out: &mut Vec<u8>) -> Result<(), AllocError> {
         put_u64(out, self.return_address)?;
         put_u32(out, self.procedure)?;
-        put_u32(out, self.number)?;
-        put_u8(out, flags(self.never_returns, self.aborts))?;
-        put_u8(out, or_no_yield(self.yield_values))?;
+        put_site_head(out, self)?;
         put_site_lists(out, self)
     }
+}
+
+/// The fields of a site's record between its procedure and its lists.
+pub(crate) fn put_site_head(out: &mut Vec<u8>, row: &SiteRow) -> Result<(), AllocError>
+    ensures { OnOk result (out.new.items ≡ out.old.items ++ site_head row.now) }
+{
+    put_u32(out, row.number)?;
+    put_u8(out, flags(row.never_returns, row.aborts))?;
+    put_u8(out, or_no_yield(row.yield_values))
 }
 
 /// The lists of a site's record.
 fn put_site_lists(out: &mut Vec<u8>, row: &SiteRow) -> Result<(), AllocError>
     ensures { OnOk result (out.new.items ≡ out.old.items ++ site_row_lists row.now) }
 {
+    put_exits(out, row)?;
+    write_rows(out, row.variables.as_slice())?;
+    put_rows16(out, row.spans.as_slice())
+}
+
+/// The results of a site and its exits.
+pub(crate) fn put_exits(out: &mut Vec<u8>, row: &SiteRow) -> Result<(), AllocError>
+    ensures { OnOk result (out.new.items ≡ out.old.items ++ exits row.now) }
+{
     put_results(out, row.results.as_slice())?;
     put_rows8(out, row.returns.as_slice())?;
     put_rows16(out, row.unwinds.as_slice())?;
-    put_rows16(out, row.cuts.as_slice())?;
-    write_rows(out, row.variables.as_slice())?;
-    put_rows16(out, row.spans.as_slice())
+    put_rows16(out, row.cuts.as_slice())
 }
 
 /// The widths of a site's results, behind their count.
