@@ -17,6 +17,7 @@ mod RecordLaws
 mod SortLaws
 mod SecondRows
 mod SecondByteLaws
+mod SeenLaws
 mod JoinLaws
 mod BitLaws
 mod AgreeLaws

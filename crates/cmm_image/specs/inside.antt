@@ -4,3 +4,4 @@ pub mod Wholes
 pub mod Ascending
 pub mod Records
 pub mod SecondSpellings
+pub mod Seen

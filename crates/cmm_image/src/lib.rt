@@ -10,7 +10,8 @@
 //! - `bounds`: what the numbers of records are measured by. `widths`: widths as they are read.
 //! - `header`, `procedure`, `procedure_parts`, `site`, `site_parts`, `symbols`: the records as they are read. `second_reading`,
 //!   `procedure_record`, `live_site`, `live`: those of version 2.
-//! - `row_bytes`: the records as they are written. `second_bytes`: those of version 2.
+//! - `row_bytes`: the records as they are written. `second_bytes`: those of version 2. `differing`: which variable has another place than
+//!   before, so that version 2 has no bytes for it.
 //! - `laws`: what bytes are, an image or a first fault.
 //!
 //! The format is one table, `specs/ImageFormat`, a line a field, over the kinds of field of `cmm_format` and `specs/Places`; `specs/Images`
@@ -18,6 +19,7 @@
 #![tactic(auto)]
 
 mod bounds;
+mod differing;
 mod fault;
 mod header;
 mod image;
