@@ -1,5 +1,5 @@
 -- Sites whose variables have one place: the places of each are under those of all sites of its procedure together.
-use Rattle.std.proofs.Common.{◌≡◌, ◌⊎◌, inl, inr, ℕ, zero, suc, ◌||◌, ◌&&◌, Bool, true, false, not, nat_eq, List, [], ◌∷◌, length, take, filter, slice_get, slice_index_or, Option, Some, None, refl, sym, ap, subst, ◌∙◌, arith}
+use Rattle.std.proofs.Common.{◌≡◌, ◌⊎◌, inl, inr, ℕ, zero, suc, ◌||◌, ◌&&◌, Bool, true, false, not, nat_eq, List, [], ◌∷◌, length, take, filter, replicate, slice_get, slice_index_or, Option, Some, None, refl, sym, ap, subst, ◌∙◌, arith}
 use Rattle.std.specs.List.{list_any}
 use Rattle.std.proofs.lemmas.Bool.{and_cases, both_ways, eq-eqb, eqb-true, not-false, or_parts}
 use Rattle.std.proofs.lemmas.List.{length-replicate}
@@ -7,7 +7,7 @@ use Rattle.cmm_image.specs.declared.rows.SiteRow.{SiteRow}
 use Rattle.cmm_image.specs.declared.rows.VariablePlace.{VariablePlace}
 use Rattle.cmm_image.specs.declared.rows.VariablePlace.TheVariants.{Dead, Slot, Register}
 use Rattle.cmm_image.specs.Migration.{HaveOnePlace, agree, differs_from, has_moved, place_of}
-use Rattle.cmm_image.specs.SecondFormat.{are_among, is_live, or_place, or_places, places_among, sites_of}
+use Rattle.cmm_image.specs.SecondFormat.{are_among, is_live, or_place, or_places, places_among, places_with, sites_of}
 use Rattle.cmm_image.proofs.DistinctLaws.{Each}
 use Rattle.cmm_image.proofs.MaskLaws.{Under}
 use Rattle.cmm_image.proofs.OrderLaws.{AreOf}
@@ -109,11 +109,49 @@ or_long [] qs long = refl
 or_long (p ∷ ps) [] long = long
 or_long (p ∷ ps) (q ∷ qs) long = ap suc (or_long ps qs (omega (arith, long)))
 
+-- ---- the first site, and then those behind it
+
+or_twice : (p q r : VariablePlace) → or_place (or_place p q) r ≡ or_place p (or_place q r)
+or_twice Dead q r = refl
+or_twice (Slot offset) q r = refl
+or_twice (Register register) q r = refl
+
+ors_twice : (ps qs rs : List VariablePlace) → or_places (or_places ps qs) rs ≡ or_places ps (or_places qs rs)
+ors_twice [] qs rs = refl
+ors_twice (p ∷ ps) [] rs = refl
+ors_twice (p ∷ ps) (q ∷ qs) [] = refl
+ors_twice (p ∷ ps) (q ∷ qs) (r ∷ rs) = rw (or_twice p q r, ors_twice ps qs rs) refl
+
+with_first : (ps qs : List VariablePlace) (ss : List SiteRow) → places_with (or_places ps qs) ss ≡ or_places ps (places_with qs ss)
+with_first ps qs [] = refl
+with_first ps qs (s ∷ ss) = ap (λ (places : List VariablePlace). places_with places ss) (ors_twice ps qs s.variables) ∙ with_first ps (or_places qs s.variables) ss
+
+dead_first : (count : ℕ) (ps : List VariablePlace) → length ps ≡ count → or_places (replicate count Dead) ps ≡ ps
+dead_first zero ps long = refl
+dead_first (suc n) [] long = absurd (omega (arith, long))
+dead_first (suc n) (p ∷ ps) long = ap (λ (qs : List VariablePlace). p ∷ qs) (dead_first n ps (omega (arith, long)))
+
+or_dead : (p : VariablePlace) → or_place p Dead ≡ p
+or_dead Dead = refl
+or_dead (Slot offset) = refl
+or_dead (Register register) = refl
+
+dead_last : (count : ℕ) (ps : List VariablePlace) → length ps ≡ count → or_places ps (replicate count Dead) ≡ ps
+dead_last zero [] long = refl
+dead_last zero (p ∷ ps) long = absurd (omega (arith, long))
+dead_last (suc n) [] long = absurd (omega (arith, long))
+dead_last (suc n) (p ∷ ps) long = rw (or_dead p, dead_last n ps (omega (arith, long))) refl
+
+pub among_first : (count : ℕ) (s : SiteRow) (ss : List SiteRow) → length s.variables ≡ count → places_among count (s ∷ ss) ≡ or_places s.variables (places_among count ss)
+among_first count s ss long =
+    ap (λ (places : List VariablePlace). places_with places ss) (dead_first count s.variables long ∙ sym (dead_last count s.variables long))
+    ∙ with_first s.variables (replicate count Dead) ss
+
 pub among_long : (count : ℕ) (ss : List SiteRow) → Each (λ s. length s.variables ≡ count) ss → length (places_among count ss) ≡ count
 among_long count [] long = length-replicate count Dead
 among_long count (s ∷ ss) long =
     let rest = among_long count ss long.1 in
-    or_long s.variables (places_among count ss) (long.0 ∙ sym rest) ∙ rest
+    ap (λ (places : List VariablePlace). length places) (among_first count s ss long.0) ∙ or_long s.variables (places_among count ss) (long.0 ∙ sym rest) ∙ rest
 
 same_there : (b c : Bool) → b ≡ true → (b && not c) ≡ false → c ≡ true
 same_there b c is e = elim (and_cases b (not c) e) [ inl isn't ↦ absurd (both_ways b isn't is) | inr same ↦ not-false c same ]
@@ -132,6 +170,7 @@ pub all_under : (n count : ℕ) (ss : List SiteRow) → AreOf n ss → Each (λ 
 all_under n count [] are long stay = tt
 all_under n count (s ∷ ss) are long stay =
     let same = long.0 ∙ sym (among_long count ss long.1) in
+    subst (λ (places : List VariablePlace). Each (λ t. Under places t.variables) (s ∷ ss)) (sym (among_first count s ss long.0))
     (firsts_under s.variables (places_among count ss) same, still_under n count s (places_among count ss) ss same are.0 are.1 stay.0 (all_under n count ss are.1 long.1 stay.1))
 
 among_one : (p : VariablePlace) → (not (is_live p) || is_live p) ≡ true

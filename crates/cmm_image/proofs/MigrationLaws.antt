@@ -16,10 +16,11 @@ use Rattle.cmm_image.specs.declared.rows.VariablePlace.TheVariants.{Dead, Slot, 
 use Rattle.cmm_image.specs.ImageFormat.{Tables, continuation, first_tables, has_sites, is_above, may_have_sites, procedure, procedure_at, procedure_with, site, site_lists_in, variable}
 use Rattle.cmm_image.specs.Migration.{HaveOnePlace}
 use Rattle.cmm_image.specs.Places.{IsPlace, variable_place}
-use Rattle.cmm_image.specs.SecondFormat.{addresses_of, are_among, is_total, is_unlike, last_code, live_site, or_place, or_places, placed, placed_variable, places_among, procedure_record, record_fields, record_of, records_from, records_of, row_places, second_tables, sites_of, tables_of}
+use Rattle.cmm_image.specs.SecondFormat.{addresses_of, are_among, is_total, is_unlike, last_code, live_site, or_place, or_places, placed, placed_variable, places_among, places_with, procedure_record, record_fields, record_of, records_from, records_of, row_places, second_tables, sites_of, tables_of}
 use Rattle.cmm_image.proofs.AgreeLaws.{AllStay, all_stay, all_stay_kept, all_under, among_long, among_same, are_of, each_kept}
 use Rattle.cmm_image.proofs.BitLaws.{live_places_hold}
-use Rattle.cmm_image.proofs.DistinctLaws.{Across, Apart, Each, apart_append, order_length}
+use Rattle.cmm_image.specs.inside.Records.{Apart}
+use Rattle.cmm_image.proofs.DistinctLaws.{Across, Each, apart_append, order_length}
 use Rattle.cmm_image.proofs.FirstLaws.{last_behind, sites_behind}
 use Rattle.cmm_image.proofs.JoinLaws.{joined_again, rising_over, rows_again}
 use Rattle.cmm_image.proofs.MaskLaws.{Under}
@@ -49,9 +50,12 @@ dead_lie : (frame n : ℕ) → Lie frame (replicate n Dead)
 dead_lie frame zero = tt
 dead_lie frame (suc n) = (tt, dead_lie frame n)
 
+with_lie : (frame : ℕ) (places : List VariablePlace) (ss : List SiteRow) → Lie frame places → Each (λ s. Lie frame s.variables) ss → Lie frame (places_with places ss)
+with_lie frame places [] lie all = lie
+with_lie frame places (s ∷ ss) lie all = with_lie frame (or_places places s.variables) ss (ors_lie frame places s.variables lie all.0) all.1
+
 among_lie : (frame count : ℕ) (ss : List SiteRow) → Each (λ s. Lie frame s.variables) ss → Lie frame (places_among count ss)
-among_lie frame count [] all = dead_lie frame count
-among_lie frame count (s ∷ ss) all = ors_lie frame s.variables (places_among count ss) all.0 (among_lie frame count ss all.1)
+among_lie frame count ss all = with_lie frame (replicate count Dead) ss (dead_lie frame count) all
 
 -- ---- variables with their places
 
@@ -220,7 +224,7 @@ record_holds code_length procedures total before p previous places own same g lo
     (g.0, (g.1.0, (g.1.1.0, (g.1.1.1.0, (g.1.1.1.1.0, (variables, (g.1.1.1.1.1.1.0, continuations))))))) in
     let sites = subst (λ (ps : List VariablePlace). AreRows (λ previous. (live_site code_length (length before) (addresses_of before) ps (length p.continuations) previous).Holds) None own)
     (sym back) rows in
-    let found : IsTrue (are_among (row_places vs) (places_among (length vs) own)) = rw (back, count, sym among) (among_same places) in
+    let found : IsTrue (are_among (row_places vs) (places_among (length (row_places vs)) own)) = rw (back, long, sym among) (among_same places) in
     let small : 0 < 256 ^ 1 = omega arith in
     let again : record_of (record_fields r) ≡ r = rw (there, back) refl in (
       (
