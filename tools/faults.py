@@ -4,7 +4,7 @@
     devices    a full device, closed streams, pipes that nobody reads, a limit on the size of files
     names      folders in place of files, names of 4,095 bytes and of one more, files that are pipes
     input      standard input that ends in mid-run
-    deep       the deepest units that there are, with a stack of 4 MiB, and with one of 1 MiB, which some of them pass
+    deep       the deepest units that there are, with a stack of 1 MiB, by `exec` and by `build`, and with one that is too small for most
     calls      each of the first 40 calls on files, streams and their bytes fails in turn (failing_calls.c), in `build`, `run`, `exec` and `walk`
     pieces     the same commands where a call moves only a few bytes of a file or a stream, and where a write takes nothing
     memory     each request for memory is refused in turn, in `exec` of two units with a client and in `run` with `--save`; only where this part is named
@@ -28,8 +28,8 @@ from second_reading import run_answer
 DONE, USAGE, REFUSED, STOPPED, FILE_FAULT, INPUT_FAULT, OUTPUT_FAULT, MEMORY = 0, 2, 3, 5, 9, 10, 11, 12
 SECONDS = 300
 MIB = 1 << 20
-# Half of what systems usually give. docs/PERFORMANCE.md has what the deepest units need, which is more than LITTLE_STACK.
-STACK, LITTLE_STACK = 4 * MIB, MIB
+# An eighth of what systems usually give, which is enough for each unit (docs/PERFORMANCE.md), and what is too little for most of the deepest.
+STACK, LITTLE_STACK = MIB, MIB // 4
 ALIKE = 40
 CALLS = 40
 PIECES = (1, 2, 3, 7, 100)
@@ -313,21 +313,22 @@ def deep(cases):
         found = call(cases.program, ["exec", "a.cmm"], world)
         if (found.status, found.log) != (DONE, b"result %d\n" % result):
             cases.fault(f"deep, {title}", f"answered {found.status} {found.log[-99:]!r}, and not {result}")
-        little_stack(cases, title, unit)
+        build_with(cases, title, unit, STACK, False)
+        build_with(cases, title, unit, LITTLE_STACK, True)
     longest = b"export main; main() { bits64 n; " + b"if n == 1 { } else " * 55_000
     cases.must("deep, a chain of else that fills a unit", ["exec", "a.cmm"], World({"a.cmm": longest}, limits=limits), REFUSED, log=b"a.cmm:1:3824: 11 too deep\n")
     opened = b"export main; main() { return (" + b"(" * MIB
     cases.must("deep, a unit of brackets alone", ["exec", "a.cmm"], World({"a.cmm": opened[:MIB]}, limits=limits), REFUSED, log=b"a.cmm:1:229: 11 too deep\n")
 
 
-def little_stack(cases, title, unit):
-    """With too little stack the system ends the program by its signal, before anything is written; with enough it answers as ever."""
+def build_with(cases, title, unit, stack, may_end):
+    """With enough stack a unit is built. With too little the system may end the program by its signal, before anything is written."""
     cases.count += 1
     files = {"a.cmm": unit.encode(), "i": b"old"}
-    found = call(cases.program, ["build", "a.cmm", "-o", "i"], World(files, limits={resource.RLIMIT_STACK: LITTLE_STACK}))
-    ended = (found.status, found.output, found.log, found.files) == (-signal.SIGSEGV, b"", b"", files)
+    found = call(cases.program, ["build", "a.cmm", "-o", "i"], World(files, limits={resource.RLIMIT_STACK: stack}))
+    ended = may_end and (found.status, found.output, found.log, found.files) == (-signal.SIGSEGV, b"", b"", files)
     if not ended and (found.status, found.output, found.log, found.files["a.cmm"]) != (DONE, b"", b"", files["a.cmm"]):
-        cases.fault(f"deep, {title}, with little stack", f"answered {found.status} {found.log[-99:]!r} {shown(found.files)}")
+        cases.fault(f"deep, {title}, built with {stack} bytes of stack", f"answered {found.status} {found.log[-99:]!r} {shown(found.files)}")
 
 
 # ---- calls that fail

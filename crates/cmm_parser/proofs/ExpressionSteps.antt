@@ -105,6 +105,12 @@ climb_breaks {before} {now} {between} {later} {level} {left} {op} {e} {result} {
         (sym (taken.answers (suc fuel) less))
         (stop_first e (operand fuel (right_level op) true between) (λ right. climb turns (operand fuel) level (joined left op right) true) later later (one.answers fuel (omega arith))))
 
+-- the operator that is next, by the left operand out of its box
+pub infix_seen : {before now : Point} {level : ℕ} {left seen : Expr} {told result : Option Infix} {whole : ℕ → Reads Expr} →
+    Reaches true whole before (climbing level left) now → seen ≡ left → told ≡ infix_next level seen.form (next now.left) → told ≡ result →
+    infix_next level left.form (next now.left) ≡ result
+infix_seen {now = now} {level = level} reached same is found = ap (λ (e : Expr). infix_next level e.form (next now.left)) (sym same) ∙ sym is ∙ found
+
 -- ---- by the first token
 
 -- an operator by its name, whose name is read with it

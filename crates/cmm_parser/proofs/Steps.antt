@@ -280,6 +280,11 @@ pub stopped : {A : Type 0} {some : Bool} {reads : ℕ → Reads A} {before after
 stopped {reads = reads} {before = before} {after = after} one is =
     subst (λ result. Takes reads before result after) (sym is) (record { answers = one.answers; taken = tt })
 
+-- what was read, by another name
+pub renamed : {A : Type 0} {some : Bool} {reads : ℕ → Reads A} {before after : Point} {a b : A} → b ≡ a → Parsed some reads before (Ok a) after →
+    Parsed some reads before (Ok b) after
+renamed {some = some} {reads = reads} {before = before} {after = after} same one = subst (λ b. Parsed some reads before (Ok b) after) (sym same) one
+
 -- a reader by another name
 pub same_reader : {A B : Type 0} {some : Bool} {before after : Point} {a b : B} {result : Result A Stop} (reads : B → ℕ → Reads A) → a ≡ b →
     Parsed some (reads a) before result after → Parsed some (reads b) before result after

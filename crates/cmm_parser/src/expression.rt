@@ -1,6 +1,6 @@
 //! Expressions, by how tightly their operators bind: what stands to the right of one binds more tightly than it.
 
-ghost use Rattle.std.specs.Prelude.{◌≡◌, ◌+◌, ◌-◌, ◌<◌, ◌≤◌, pred, length, Ok, IsTrue, OnOk, OnSome, IfOk, Some, pred};
+ghost use Rattle.std.specs.Prelude.{◌≡◌, ◌+◌, ◌-◌, ◌<◌, ◌≤◌, ◌∷◌, ◌++◌, [], pred, length, Ok, IsTrue, OnOk, OnSome, IfOk, Some, pred};
 ghost use Rattle.cmm_grammar_laws.specs.Reading.{listed, look, next, passes};
 ghost use Rattle.cmm_grammar_laws.specs.ExpressionReading as readers;
 ghost use Rattle.cmm_grammar_laws.specs.ExpressionReading.{begins_expression};
@@ -67,12 +67,12 @@ impl Parser<'_> {
     }
 
     /// An expression that stands in no other.
-    #[inline(never)]
     pub(crate) fn whole(&mut self) -> Result<Expr, Stop>
         ensures { Takes (λ fuel. readers.whole fuel) (point_of self.old) result (point_of self.new) }
     {
         self.begin_outermost();
-        self.operand(0)
+        let e = self.operand(0)?;
+        Ok(e.into_inner())
     }
 
     /// A primary expression that stands in no other.
@@ -108,13 +108,13 @@ impl Parser<'_> {
 
     /// An expression that binds at least as tightly as this level: operators group to the left, and comparisons do not group.
     #[cycle(expression)]
-    pub(crate) fn operand(&mut self, level: u8) -> Result<Expr, Stop>
+    fn operand(&mut self, level: u8) -> Result<Boxed<Expr>, Stop>
         ensures { Takes (λ fuel. readers.operand fuel level) (point_of self.old) result (point_of self.new) }
     {
         let token = self.here();
         let form = self.unary()?;
-        let mut left = Expr { token, form };
-        while let Some(operator) = self.next_infix(level, &left.form) {
+        let mut left = boxed(self.alloc, token, form)?;
+        while let Some(operator) = self.next_infix(level, &left.get().form) {
             self.operator()?;
             let right = self.operand(level_of(operator) + 1)?;
             left = joined(self.alloc, left, operator, right)?;
@@ -161,16 +161,14 @@ impl Parser<'_> {
 
     /// The operator that is next, and its operand.
     #[cycle(expression)]
+    #[inline(never)]
     fn prefix(&mut self, operator: Prefix) -> Result<ExprForm, Stop>
         requires { 0 < length (point_of self.old).left }
         ensures { Takes (λ fuel. readers.prefixed (readers.operand (pred fuel)) (Some operator)) (point_of self.old) result (point_of self.new) }
     {
         self.operator()?;
         let operand = self.operand(UNARY_LEVEL)?;
-        Ok(ExprForm::Prefix {
-            operator,
-            operand: Boxed::new(self.alloc, operand)?,
-        })
+        Ok(ExprForm::Prefix { operator, operand })
     }
 
     /// The operator that is next by its name, and its operands in brackets.
@@ -192,9 +190,9 @@ impl Parser<'_> {
         ensures { Takes (λ fuel. listed fuel readers.begins_expression (readers.operand fuel 0)) (point_of self.old) result (point_of self.new) }
     {
         let mut operands = Items::new(self.alloc);
-        operands.push(self.operand(0)?)?;
+        add(&mut operands, self.operand(0)?)?;
         while self.accept(Symbol::Comma) && self.is_expression() {
-            operands.push(self.operand(0)?)?;
+            add(&mut operands, self.operand(0)?)?;
         }
         Ok(operands)
     }
@@ -207,7 +205,7 @@ impl Parser<'_> {
         let outside = self.enter(Symbol::Open)?;
         let inner = self.operand(0)?;
         self.leave(Symbol::Close, outside)?;
-        Ok(PrimForm::Bracketed(Boxed::new(self.alloc, inner)?))
+        Ok(PrimForm::Bracketed(inner))
     }
 
     /// The word in memory of this type, at the address that is next.
@@ -222,22 +220,44 @@ impl Parser<'_> {
         self.leave(Symbol::CloseSquare, outside)?;
         Ok(Memory {
             width,
-            address: Boxed::new(self.alloc, address)?,
+            address,
             aligned,
         })
     }
 }
 
+/// An expression of this form, in its box.
+#[inline(never)]
+fn boxed(alloc: Global, token: u32, form: ExprForm) -> Result<Boxed<Expr>, AllocError>
+    ensures { IfOk result (λ e. e ≡ record { token = token; form = form }) }
+{
+    Boxed::new(alloc, Expr { token, form })
+}
+
 /// Two operands with an operator between them.
 #[inline(never)]
-fn joined(alloc: Global, left: Expr, operator: Infix, right: Expr) -> Result<Expr, AllocError>
+fn joined(
+    alloc: Global,
+    left: Boxed<Expr>,
+    operator: Infix,
+    right: Boxed<Expr>,
+) -> Result<Boxed<Expr>, AllocError>
     ensures { IfOk result (λ e. e ≡ readers.joined left operator right) }
 {
-    let token = left.token;
+    let token = left.get().token;
     let form = ExprForm::Infix {
-        left: Boxed::new(alloc, left)?,
+        left,
         operator,
-        right: Boxed::new(alloc, right)?,
+        right,
     };
-    Ok(Expr { token, form })
+    boxed(alloc, token, form)
+}
+
+/// Puts the expression behind these, out of its box.
+#[inline(never)]
+fn add(operands: &mut Items<Expr>, operand: Boxed<Expr>) -> Result<(), AllocError>
+    ensures { IfOk result (λ _. operands.new ≡ operands.old ++ operand ∷ []) }
+{
+    operands.push(operand.into_inner())?;
+    Ok(())
 }

@@ -1,9 +1,11 @@
 //! Blocks, and the statements that hold blocks.
 
-ghost use Rattle.std.specs.Prelude.{◌≡◌, ◌+◌, ◌-◌, ◌<◌, ◌≤◌, [], length, OnOk};
+ghost use Rattle.std.specs.Prelude.{◌≡◌, ◌+◌, ◌-◌, ◌<◌, ◌≤◌, ◌∷◌, ◌++◌, [], length, IfOk, OnOk};
 ghost use Rattle.cmm_lexer.specs.declared.symbol.Symbol.TheVariants.{OpenSquare};
 ghost use Rattle.cmm_lexer.specs.Spellings.{symbol_number};
 ghost use Rattle.cmm_ast.specs.Taking.{is_sign};
+ghost use Rattle.cmm_ast.specs.declared.statement.StmtForm.TheVariants as stmts;
+ghost use Rattle.cmm_grammar_laws.specs.declared.told_apart.PartForm.TheVariants as forms;
 ghost use Rattle.cmm_grammar_laws.specs.Reading.{braces, optional, many};
 ghost use Rattle.cmm_grammar_laws.specs.StatementReading as readers;
 ghost use Rattle.cmm_grammar_laws.specs.StatementReading.{is_within};
@@ -11,10 +13,11 @@ ghost use Rattle.cmm_parser.specs.inside.Parsing.{Takes, MayTake, TakesBlocks, M
 
 use crate::fault::Stop;
 use crate::parser::Parser;
-use cmm_ast::{Arm, Block, Local, Otherwise, Part, Span, Stmt, StmtForm};
+use cmm_ast::{Arm, Block, Expr, Local, Otherwise, Part, Primary, Span, Stmt, StmtForm};
 use cmm_grammar_laws::PartForm;
 use cmm_items::{Boxed, Items};
 use cmm_lexer::{Keyword, Symbol};
+use std::alloc::{AllocError, Global};
 
 /// The part with these numbers of its first token and of the token after its last.
 fn part_of(token: u32, past: u32, form: PartForm) -> Part
@@ -24,6 +27,99 @@ fn part_of(token: u32, past: u32, form: PartForm) -> Part
         PartForm::OfLocal(form) => Part::Local(Local { token, past, form }),
         PartForm::OfStmt(form) => Part::Stmt(Stmt { token, past, form }),
     }
+}
+
+// What a level of blocks holds while the next one is parsed stays in boxes, and what is made of it is made by functions of their own:
+// a part takes 320 bytes, and each copy of one would stand on the stack at each level.
+
+/// The part with these numbers, in a box.
+#[inline(never)]
+fn boxed_part(
+    alloc: Global,
+    token: u32,
+    past: u32,
+    form: Boxed<PartForm>,
+) -> Result<Boxed<Part>, AllocError>
+    ensures { IfOk result (λ part. part ≡ readers.part_of token past form) }
+{
+    Boxed::new(alloc, part_of(token, past, form.into_inner()))
+}
+
+/// The statement with these numbers, in a box.
+#[inline(never)]
+fn boxed_stmt(
+    alloc: Global,
+    token: u32,
+    past: u32,
+    form: Boxed<StmtForm>,
+) -> Result<Boxed<Stmt>, AllocError>
+    ensures { IfOk result (λ stmt. stmt ≡ record { token = token; past = past; form = form }) }
+{
+    let form = form.into_inner();
+    Boxed::new(alloc, Stmt { token, past, form })
+}
+
+/// This statement, as a part.
+#[inline(never)]
+fn of_stmt(alloc: Global, form: Boxed<StmtForm>) -> Result<Boxed<PartForm>, AllocError>
+    ensures { IfOk result (λ part. part ≡ forms.OfStmt form) }
+{
+    Boxed::new(alloc, PartForm::OfStmt(form.into_inner()))
+}
+
+/// An `if` of these.
+#[inline(never)]
+fn boxed_if(
+    alloc: Global,
+    condition: Expr,
+    then: Block,
+    otherwise: Otherwise,
+) -> Result<Boxed<StmtForm>, AllocError>
+    ensures { IfOk result (λ form. form ≡ stmts.If condition then otherwise) }
+{
+    Boxed::new(
+        alloc,
+        StmtForm::If {
+            condition,
+            then,
+            otherwise,
+        },
+    )
+}
+
+/// A `switch` of these.
+#[inline(never)]
+fn boxed_switch(
+    alloc: Global,
+    range: Option<Span>,
+    value: Expr,
+    arms: Items<Arm>,
+) -> Result<Boxed<StmtForm>, AllocError>
+    ensures { IfOk result (λ form. form ≡ stmts.Switch range value arms) }
+{
+    Boxed::new(alloc, StmtForm::Switch { range, value, arms })
+}
+
+/// A `span` of these.
+#[inline(never)]
+fn boxed_span(
+    alloc: Global,
+    key: Primary,
+    value: Expr,
+    body: Block,
+) -> Result<Boxed<StmtForm>, AllocError>
+    ensures { IfOk result (λ form. form ≡ stmts.Span key value body) }
+{
+    Boxed::new(alloc, StmtForm::Span { key, value, body })
+}
+
+/// Puts the part behind these, out of its box.
+#[inline(never)]
+fn add(parts: &mut Items<Part>, part: Boxed<Part>) -> Result<(), AllocError>
+    ensures { IfOk result (λ _. parts.new ≡ parts.old ++ part ∷ []) }
+{
+    parts.push(part.into_inner())?;
+    Ok(())
 }
 
 impl Parser<'_> {
@@ -45,51 +141,58 @@ impl Parser<'_> {
     {
         let mut parts = Items::new(self.alloc);
         while self.is_within(Symbol::CloseBrace) {
-            parts.push(self.part()?)?;
+            add(&mut parts, self.part()?)?;
         }
         Ok(parts)
     }
 
     /// A statement or a declaration.
     #[cycle(statement)]
-    pub(crate) fn part(&mut self) -> Result<Part, Stop>
+    fn part(&mut self) -> Result<Boxed<Part>, Stop>
         ensures { TakesBlocks readers.part (point_of self.old) result (point_of self.new) }
     {
         let token = self.here();
         let form = self.part_form()?;
         let past = self.here();
-        Ok(part_of(token, past, form))
+        Ok(boxed_part(self.alloc, token, past, form)?)
     }
 
     /// What a part of a block is, by its first token.
     #[cycle(statement)]
-    fn part_form(&mut self) -> Result<PartForm, Stop>
+    fn part_form(&mut self) -> Result<Boxed<PartForm>, Stop>
         ensures { TakesBlocks readers.part_form (point_of self.old) result (point_of self.new) }
     {
         if self.accept_word(Keyword::If) {
-            Ok(PartForm::OfStmt(self.if_form()?))
+            Ok(of_stmt(self.alloc, self.if_form()?)?)
         } else if self.accept_word(Keyword::Switch) {
-            Ok(PartForm::OfStmt(self.switch_form()?))
+            Ok(of_stmt(self.alloc, self.switch_form()?)?)
         } else if self.accept_word(Keyword::Span) {
-            Ok(PartForm::OfStmt(self.span_form()?))
+            Ok(of_stmt(self.alloc, self.span_form()?)?)
         } else {
-            self.flat_part()
+            self.boxed_flat_part()
         }
+    }
+
+    /// A part that holds no block, in a box.
+    #[inline(never)]
+    fn boxed_flat_part(&mut self) -> Result<Boxed<PartForm>, Stop>
+        ensures { Takes (λ fuel. readers.flat_part fuel) (point_of self.old) result (point_of self.new) }
+    {
+        let form = self.flat_part()?;
+        let part = Boxed::new(self.alloc, form)?;
+        Ok(part)
     }
 
     /// What follows an `if`.
     #[cycle(statement)]
-    fn if_form(&mut self) -> Result<StmtForm, Stop>
+    #[inline(never)]
+    fn if_form(&mut self) -> Result<Boxed<StmtForm>, Stop>
         ensures { TakesChain (λ turns fuel blocks. readers.if_form fuel blocks (readers.otherwise turns fuel blocks)) (point_of self.old) result (point_of self.new) }
     {
         let condition = self.whole()?;
         let then = self.block()?;
         let otherwise = self.otherwise()?;
-        Ok(StmtForm::If {
-            condition,
-            then,
-            otherwise,
-        })
+        Ok(boxed_if(self.alloc, condition, then, otherwise)?)
     }
 
     /// What stands after the block of an `if`.
@@ -103,14 +206,14 @@ impl Parser<'_> {
                 return Ok(Otherwise::Else(self.block()?));
             }
             let chained = self.chained()?;
-            return Ok(Otherwise::ElseIf(Boxed::new(self.alloc, chained)?));
+            return Ok(Otherwise::ElseIf(chained));
         }
         Ok(Otherwise::Nothing)
     }
 
     /// An `if` after an `else`, which counts as an open bracket until its chain ends.
     #[cycle(statement)]
-    fn chained(&mut self) -> Result<Stmt, Stop>
+    fn chained(&mut self) -> Result<Boxed<Stmt>, Stop>
         ensures { TakesChain (λ turns fuel blocks. readers.chained (readers.if_form fuel blocks (readers.otherwise turns fuel blocks))) (point_of self.old) result (point_of self.new) }
     {
         let token = self.here();
@@ -118,19 +221,19 @@ impl Parser<'_> {
         let form = self.if_form()?;
         let past = self.here();
         self.close(outside);
-        Ok(Stmt { token, past, form })
+        Ok(boxed_stmt(self.alloc, token, past, form)?)
     }
 
     /// What follows a `switch`.
     #[cycle(statement)]
     #[inline(never)]
-    fn switch_form(&mut self) -> Result<StmtForm, Stop>
+    fn switch_form(&mut self) -> Result<Boxed<StmtForm>, Stop>
         ensures { TakesBlocks readers.switch_form (point_of self.old) result (point_of self.new) }
     {
         let range = self.optional_span()?;
         let value = self.whole()?;
         let arms = self.braced_arms()?;
-        Ok(StmtForm::Switch { range, value, arms })
+        Ok(boxed_switch(self.alloc, range, value, arms)?)
     }
 
     /// The values that a switch is over, where they stand in square brackets.
@@ -180,12 +283,12 @@ impl Parser<'_> {
     /// What follows a `span`.
     #[cycle(statement)]
     #[inline(never)]
-    fn span_form(&mut self) -> Result<StmtForm, Stop>
+    fn span_form(&mut self) -> Result<Boxed<StmtForm>, Stop>
         ensures { TakesBlocks readers.span_form (point_of self.old) result (point_of self.new) }
     {
         let key = self.whole_prim()?;
         let value = self.whole()?;
         let body = self.block()?;
-        Ok(StmtForm::Span { key, value, body })
+        Ok(boxed_span(self.alloc, key, value, body)?)
     }
 }

@@ -14,7 +14,7 @@ use Rattle.cmm_parser.specs.inside.Parsing.{prefix_next}
 use Rattle.cmm_parser.specs.Faults.{lexeme_in}
 use Rattle.cmm_parser.proofs.Steps.{handed, steps, steps_below, stops, halts, gives, gives_same, holds, looks, found, same_reader, same_readers, brackets_below, stops_inside_below, stops_closing_below}
 use Rattle.cmm_parser.proofs.Loops.{starts_after, listed_turn, listed_ends, listed_ends_at, listed_breaks}
-use Rattle.cmm_parser.proofs.ExpressionSteps.{operand_starts, operand_breaks, climb_turn, climb_ends, climb_stops, climb_breaks, by_name, only_literal, literal_first}
+use Rattle.cmm_parser.proofs.ExpressionSteps.{operand_starts, operand_breaks, climb_turn, climb_ends, climb_stops, climb_breaks, infix_seen, by_name, only_literal, literal_first}
 use Rattle.cmm_parser.proofs.parser.Parser.+expression.Goals.{operands-then-loop-self-test+else-is_expression, operands-else-loop-self-test}
 use Rattle.cmm_parser.proofs.parser.Parser.+expression.Goals as goal
 
@@ -126,13 +126,13 @@ operands-returns-in_err-operand-2 t c =
 
 pub operands-loop-self-init : goal.operands-loop-self-init
 operands-loop-self-init t c =
-    let one : c.push.new.self ≡ c.in_ok-operand.field-0 ∷ [] = search rules in
+    let one : c.add.new.operands ≡ c.in_ok-operand.field-0 ∷ [] = search rules in
     rw one (starts_after (λ a fuel turns. more_listed turns begins_expression (readers.operand fuel 0) (a ∷ [])) c.in_ok-operand.ensures)
 
 pub operands-loop-self-preserved : goal.operands-loop-self-preserved
 operands-loop-self-preserved t c =
     listed_turn c.loop-self.invariant (c.accept.ensures.taken c.loop-self-test.true) (c.is_expression.ensures ∙ c.if-is_expression.true) c.in_ok-operand-2.ensures
-    c.in_ok-push-2.ensures.ok
+    c.in_ok-add-2.ensures
 
 pub operands-returns : goal.operands-returns
 operands-returns t c = elim c.loop-self-test.branch [
@@ -216,23 +216,23 @@ pub operand-returns-in_err-form : goal.operand-returns-in_err-form
 operand-returns-in_err-form t c = operand_breaks c.args.level c.in_err-form.ensures (handed c.from_residual.ensures.1)
 
 pub operand-loop-operator-init : goal.operand-loop-operator-init
-operand-loop-operator-init t c = operand_starts c.args.level c.in_ok-form.ensures (ap (λ token. record { token = token; form = c.in_ok-form.form }) c.here-token.ensures)
+operand-loop-operator-init t c = operand_starts c.args.level c.in_ok-form.ensures (c.in_ok-left.ensures ∙ ap (λ token. record { token = token; form = c.in_ok-form.form }) c.here-token.ensures)
 
 pub operand-returns-in_err-operator : goal.operand-returns-in_err-operator
 operand-returns-in_err-operator t c =
-    climb_stops c.loop-operator.invariant (sym c.next_infix.ensures ∙ c.in-Some.is) c.in_err-operator.ensures (handed c.from_residual-in_err-operator.ensures.1)
+    climb_stops c.loop-operator.invariant (infix_seen c.loop-operator.invariant c.get.ensures c.next_infix.ensures c.in-Some.is) c.in_err-operator.ensures (handed c.from_residual-in_err-operator.ensures.1)
 
 pub operand-returns-in_err-right : goal.operand-returns-in_err-right
 operand-returns-in_err-right t c =
     let level = λ (n : ℕ) (fuel : ℕ). readers.operand fuel n in
-    climb_breaks c.loop-operator.invariant (sym c.next_infix.ensures ∙ c.in-Some.is) c.in_ok-operator.ensures
+    climb_breaks c.loop-operator.invariant (infix_seen c.loop-operator.invariant c.get.ensures c.next_infix.ensures c.in-Some.is) c.in_ok-operator.ensures
     (same_reader level (let e = c.level_of.ensures in omega arith) c.in_err-right.ensures) (handed c.from_residual-in_err-right.ensures.1)
 
 pub operand-loop-operator-preserved : goal.operand-loop-operator-preserved
 operand-loop-operator-preserved t c =
     let level = λ (n : ℕ) (fuel : ℕ). readers.operand fuel n in
-    climb_turn c.loop-operator.invariant (sym c.next_infix.ensures ∙ c.in-Some.is) c.in_ok-operator.ensures
+    climb_turn c.loop-operator.invariant (infix_seen c.loop-operator.invariant c.get.ensures c.next_infix.ensures c.in-Some.is) c.in_ok-operator.ensures
     (same_reader level (let e = c.level_of.ensures in omega arith) c.in_ok-right.ensures) (search rules)
 
 pub operand-returns : goal.operand-returns
-operand-returns t c = climb_ends c.loop-operator.invariant (sym c.next_infix.ensures ∙ search rules)
+operand-returns t c = climb_ends c.loop-operator.invariant (infix_seen c.loop-operator.invariant c.get.ensures c.next_infix.ensures (search rules))

@@ -73,7 +73,7 @@ body-loop-parts-preserved t c =
     λ depth less.
     let reached = c.loop-parts.invariant depth less in
     let fewer = reached.taken in
-    many_turn reached (c.is_within.ensures ∙ c.loop-parts-test.true) (c.in_ok-part.ensures.answers depth (omega arith)) c.in_ok-push.ensures.ok
+    many_turn reached (c.is_within.ensures ∙ c.loop-parts-test.true) (c.in_ok-part.ensures.answers depth (omega arith)) c.in_ok-add.ensures
 
 pub body-returns : goal.body-returns
 body-returns t c =
@@ -135,7 +135,7 @@ chained-returns t c =
     (steps _ c.in_ok-outside.ensures.answers
     (steps _ (c.in_ok-form.ensures.answers turns depth (omega arith) (omega arith))
     (after_here (chain_past (point_of c.args.self.now).taken c.in_ok-form.form)
-    (gives_same (numbered_stmt _ _ _ _ c.in_ok-form.form c.here-token.ensures c.here-past.ensures))))))
+    (gives_same (c.in_ok-boxed_stmt.ensures ∙ numbered_stmt _ _ _ _ c.in_ok-form.form c.here-token.ensures c.here-past.ensures))))))
     c.in_ok-outside.ensures.outside c.close.ensures)
 
 pub if_form-returns-in_err-condition : goal.if_form-returns-in_err-condition
@@ -163,7 +163,7 @@ if_form-returns t c =
     let taken = c.in_ok-condition.ensures.taken in
     let more = c.in_ok-then.ensures.taken in
     steps _ c.in_ok-condition.ensures
-    (steps _ (at_count depth (omega arith) c.in_ok-then.ensures) (steps _ (c.in_ok-otherwise.ensures.answers turns depth (omega arith) (omega arith)) gives)))
+    (steps _ (at_count depth (omega arith) c.in_ok-then.ensures) (steps _ (c.in_ok-otherwise.ensures.answers turns depth (omega arith) (omega arith)) (gives_same c.in_ok-boxed_if.ensures))))
 
 abbrev block_to : ℕ → ℕ → Reads Otherwise
 block_to depth fuel = readers.block depth >>= λ body. give (Else body)
@@ -229,7 +229,7 @@ part-returns t c =
     after_here (part_at depth)
     (steps _ (c.in_ok-form.ensures.answers depth less)
     (after_here (part_past (point_of c.args.self.now).taken c.in_ok-form.form)
-    (gives_same (c.part_of.ensures ∙ numbered_part _ _ _ _ c.in_ok-form.form c.here-token.ensures c.here-past.ensures)))))
+    (gives_same (c.in_ok-boxed_part.ensures ∙ numbered_part _ _ _ _ c.in_ok-form.form c.here-token.ensures c.here-past.ensures)))))
 
 pub part_form-returns-in_err-if_form : goal.part_form-returns-in_err-if_form
 part_form-returns-in_err-if_form t c =
@@ -257,31 +257,31 @@ part_form-returns-in_err-span_form t c =
     let still = still_less depth no_switch (still_less depth no_if less) in
     leaves no_if (leaves no_switch (takes span (stops _ (c.in_err-span_form.ensures.answers depth (omega arith)) (handed c.from_residual-in_err-span_form.ensures.1)))))
 
-pub part_form-returns-in_ok-if_form : goal.part_form-returns-in_ok-if_form
-part_form-returns-in_ok-if_form t c =
+pub part_form-returns-in_ok-of_stmt : goal.part_form-returns-in_ok-of_stmt
+part_form-returns-in_ok-of_stmt t c =
     by_depth (λ depth less.
     let taken = (c.accept_word.ensures.taken c.if-accept_word.true).fewer in
     takes (c.accept_word.ensures.taken c.if-accept_word.true)
-    (steps _ (diagonal (chosen_if depth) (λ turns under. c.in_ok-if_form.ensures.answers turns depth under (omega arith))) gives))
+    (steps _ (diagonal (chosen_if depth) (λ turns under. c.in_ok-if_form.ensures.answers turns depth under (omega arith))) (gives_same c.in_ok-of_stmt.ensures)))
 
-pub part_form-returns-in_ok-switch_form : goal.part_form-returns-in_ok-switch_form
-part_form-returns-in_ok-switch_form t c =
+pub part_form-returns-in_ok-of_stmt-2 : goal.part_form-returns-in_ok-of_stmt-2
+part_form-returns-in_ok-of_stmt-2 t c =
     by_depth (λ depth less.
     let no_if = c.accept_word.ensures.kept c.if-accept_word.false in
     let switch = c.accept_word-else-accept_word.ensures.taken c.if-accept_word-2.true in
     let taken = switch.fewer in
     let still = still_less depth no_if less in
-    leaves no_if (takes switch (steps _ (c.in_ok-switch_form.ensures.answers depth (omega arith)) gives)))
+    leaves no_if (takes switch (steps _ (c.in_ok-switch_form.ensures.answers depth (omega arith)) (gives_same c.in_ok-of_stmt-2.ensures))))
 
-pub part_form-returns-in_ok-span_form : goal.part_form-returns-in_ok-span_form
-part_form-returns-in_ok-span_form t c =
+pub part_form-returns-in_ok-of_stmt-3 : goal.part_form-returns-in_ok-of_stmt-3
+part_form-returns-in_ok-of_stmt-3 t c =
     by_depth (λ depth less.
     let no_if = c.accept_word.ensures.kept c.if-accept_word.false in
     let no_switch = c.accept_word-else-accept_word.ensures.kept c.if-accept_word-2.false in
     let span = c.accept_word-else-accept_word-2.ensures.taken c.if-accept_word-3.true in
     let taken = span.fewer in
     let still = still_less depth no_switch (still_less depth no_if less) in
-    leaves no_if (leaves no_switch (takes span (steps _ (c.in_ok-span_form.ensures.answers depth (omega arith)) gives))))
+    leaves no_if (leaves no_switch (takes span (steps _ (c.in_ok-span_form.ensures.answers depth (omega arith)) (gives_same c.in_ok-of_stmt-3.ensures)))))
 
 -- ---- `span`
 
@@ -306,7 +306,7 @@ span_form-returns t c =
     by_depth (λ depth less.
     let taken = c.in_ok-key.ensures.taken in
     let more = c.in_ok-value.ensures.taken in
-    steps _ c.in_ok-key.ensures (steps _ c.in_ok-value.ensures (steps _ (at_count depth (omega arith) c.in_ok-body.ensures) gives)))
+    steps _ c.in_ok-key.ensures (steps _ c.in_ok-value.ensures (steps _ (at_count depth (omega arith) c.in_ok-body.ensures) (gives_same c.in_ok-boxed_span.ensures))))
 
 -- ---- `switch`
 
@@ -331,7 +331,7 @@ switch_form-returns t c =
     by_depth (λ depth less.
     let range = c.in_ok-range.ensures.taken in
     let taken = c.in_ok-value.ensures.taken in
-    steps _ c.in_ok-range.ensures (steps _ c.in_ok-value.ensures (steps _ (c.in_ok-arms.ensures.answers depth (omega arith)) gives)))
+    steps _ c.in_ok-range.ensures (steps _ c.in_ok-value.ensures (steps _ (c.in_ok-arms.ensures.answers depth (omega arith)) (gives_same c.in_ok-boxed_switch.ensures))))
 
 pub braced_arms-returns-in_err-outside : goal.braced_arms-returns-in_err-outside
 braced_arms-returns-in_err-outside t c =
