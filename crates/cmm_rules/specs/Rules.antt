@@ -42,6 +42,7 @@ rule_number rule.BadImageField = 53
 rule_number rule.ImageOutOfRange = 54
 rule_number rule.BytesAfterImage = 55
 rule_number rule.ImageTooLong = 56
+rule_number rule.TwoPlaces = 57
 rule_number rule.NoActivation = 60
 rule_number rule.NoVariable = 61
 rule_number rule.DeadVariable = 62
@@ -104,6 +105,7 @@ rule_text rule.BadImageField = codes "bad image field"
 rule_text rule.ImageOutOfRange = codes "image out of range"
 rule_text rule.BytesAfterImage = codes "bytes after image"
 rule_text rule.ImageTooLong = codes "image too long"
+rule_text rule.TwoPlaces = codes "two places"
 rule_text rule.NoActivation = codes "no activation"
 rule_text rule.NoVariable = codes "no variable"
 rule_text rule.DeadVariable = codes "dead variable"
@@ -166,6 +168,7 @@ phase_of rule.BadImageField = phase.Image
 phase_of rule.ImageOutOfRange = phase.Image
 phase_of rule.BytesAfterImage = phase.Image
 phase_of rule.ImageTooLong = phase.Image
+phase_of rule.TwoPlaces = phase.Image
 phase_of rule.NoActivation = phase.Client
 phase_of rule.NoVariable = phase.Client
 phase_of rule.DeadVariable = phase.Client
@@ -200,7 +203,7 @@ rules =
     ∷ rule.NotALocalVariable ∷ rule.ArmsOverlap ∷ rule.BadReturnIndex ∷ rule.TooManyValues ∷ rule.NotExported
     ∷ rule.ExportedTwice ∷ rule.NoMain ∷ rule.OtherTarget ∷ rule.BadHostCall ∷ rule.Cycle ∷ rule.Limit ∷ rule.NotAnImage
     ∷ rule.OtherImageVersion ∷ rule.ImageIsCut ∷ rule.BadImageField ∷ rule.ImageOutOfRange ∷ rule.BytesAfterImage
-    ∷ rule.ImageTooLong ∷ rule.NoActivation ∷ rule.NoVariable ∷ rule.DeadVariable ∷ rule.DoesNotFit ∷ rule.NoExit ∷ rule.OtherCount ∷ rule.InvariantVariable
+    ∷ rule.ImageTooLong ∷ rule.TwoPlaces ∷ rule.NoActivation ∷ rule.NoVariable ∷ rule.DeadVariable ∷ rule.DoesNotFit ∷ rule.NoExit ∷ rule.OtherCount ∷ rule.InvariantVariable
     ∷ rule.NoCut ∷ rule.NoPlace ∷ rule.NoYieldedValue ∷ rule.SnapshotIsCut ∷ rule.OtherImageHeader ∷ rule.BadSnapshotField
     ∷ rule.SnapshotTooLong ∷ rule.BytesAfterSnapshot ∷ rule.NotASnapshot ∷ rule.UnknownLine ∷ rule.RepeatedBlock ∷ rule.ScriptTooLong
     ∷ rule.NotAnElfFile ∷ rule.ElfFileIsCut ∷ rule.BadElfField ∷ rule.BytesOutsideSegments ∷ rule.ElfFileTooLong ∷ []

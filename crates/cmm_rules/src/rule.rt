@@ -79,7 +79,7 @@ pub enum Rule {
     Limit,
     /// 50. The bytes do not begin with `CMMI`: at 0.
     NotAnImage,
-    /// 51. The version of an image is not 1: at its field.
+    /// 51. The version of an image is neither 1 nor 2, or that of an image to be migrated is 2: at its field.
     OtherImageVersion,
     /// 52. The bytes of an image end inside a field: at the field.
     ImageIsCut,
@@ -91,6 +91,9 @@ pub enum Rule {
     BytesAfterImage,
     /// 56. An image has more than 536,870,912 bytes: at the first byte too many.
     ImageTooLong,
+    /// 57. A variable is live at two sites of its procedure in different places, so that the image has no spelling in version 2: at the
+    /// first field of a place that differs from an earlier one.
+    TwoPlaces,
     /// 60. There is no such activation.
     NoActivation,
     /// 61. The procedure has no variable of this number.
@@ -151,7 +154,7 @@ pub enum Phase {
     Syntax,
     /// Names, widths, constants and limits: rules 20 to 40.
     Static,
-    /// The form of images: rules 50 to 56.
+    /// The form of images: rules 50 to 57.
     Image,
     /// The form of snapshots: rules 70 to 75.
     Snapshot,
@@ -164,7 +167,7 @@ pub enum Phase {
 }
 
 /// Every rule, in the order of the numbers.
-const RULES: [Rule; 59] = [
+const RULES: [Rule; 60] = [
     Rule::BadByte,
     Rule::OpenComment,
     Rule::OpenText,
@@ -200,6 +203,7 @@ const RULES: [Rule; 59] = [
     Rule::ImageOutOfRange,
     Rule::BytesAfterImage,
     Rule::ImageTooLong,
+    Rule::TwoPlaces,
     Rule::NoActivation,
     Rule::NoVariable,
     Rule::DeadVariable,
@@ -267,6 +271,7 @@ impl Rule {
             Rule::ImageOutOfRange => 54,
             Rule::BytesAfterImage => 55,
             Rule::ImageTooLong => 56,
+            Rule::TwoPlaces => 57,
             Rule::NoActivation => 60,
             Rule::NoVariable => 61,
             Rule::DeadVariable => 62,
@@ -334,6 +339,7 @@ impl Rule {
             Rule::ImageOutOfRange => "image out of range",
             Rule::BytesAfterImage => "bytes after image",
             Rule::ImageTooLong => "image too long",
+            Rule::TwoPlaces => "two places",
             Rule::NoActivation => "no activation",
             Rule::NoVariable => "no variable",
             Rule::DeadVariable => "dead variable",
@@ -399,7 +405,8 @@ impl Rule {
             | Rule::BadImageField
             | Rule::ImageOutOfRange
             | Rule::BytesAfterImage
-            | Rule::ImageTooLong => Phase::Image,
+            | Rule::ImageTooLong
+            | Rule::TwoPlaces => Phase::Image,
             Rule::SnapshotIsCut
             | Rule::OtherImageHeader
             | Rule::BadSnapshotField
