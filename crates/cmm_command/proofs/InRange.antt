@@ -12,9 +12,9 @@ use Rattle.cmm_command.specs.declared.first_word.FirstWord.{FirstWord}
 use Rattle.cmm_command.specs.declared.first_word.FirstWord.TheVariants as first
 use Rattle.cmm_command.specs.FirstWords.{first_word_in}
 use Rattle.cmm_command.specs.Laws.{CommandsAreInRange, IsInRange, IsLimited, IsName}
-use Rattle.cmm_command.specs.Meaning.{Meaning, build, build_of, elf, exec, exec_of, generate, generate_of, meaning_by, meaning_of, run, run_of, segments, segments_of, two_files, walk}
+use Rattle.cmm_command.specs.Meaning.{Meaning, build, build_of, elf, exec, exec_of, generate, generate_of, meaning_by, meaning_of, migrate, run, run_of, segments, segments_of, two_files, walk}
 use Rattle.cmm_command.specs.Numbers.{number_up_to, number_of, stack_of, steps_of}
-use Rattle.cmm_command.specs.Options.{build_app, elf_app, exec_app, generate_app, run_app, segments_app, walk_app}
+use Rattle.cmm_command.specs.Options.{build_app, elf_app, exec_app, generate_app, migrate_app, run_app, segments_app, walk_app}
 use Rattle.cmm_command.specs.Reading.{◌>>=◌, file_if_given, file_names, file_of, files_of, file_as_given, file_name, limits_of, number_in, read_or, sorted}
 
 -- what goes on was there
@@ -172,4 +172,5 @@ commands_are_in_range words m is = let w = went (first_word_in words) (λ word. 
     by first.Walk h = two_within walk_app (codes "snapshot") words (λ files. walk files.0 files.1) m (λ files are. are) h
     by first.Generate h = let s = went (sorted generate_app words) generate_of m h in generate_within s.with_ m s.next
     by first.Elf h = two_within elf_app (codes "file") words (λ files. elf files.0 files.1) m (λ files are. are) h
+    by first.Migrate h = two_within migrate_app (codes "file") words (λ files. migrate files.0 files.1) m (λ files are. are) h
     by first.Segments h = let s = went (sorted segments_app words) segments_of m h in segments_within s.with_ m s.next

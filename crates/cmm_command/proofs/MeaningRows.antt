@@ -4,12 +4,12 @@ use Rattle.clap.proofs.OnLiterals.{clap_on_literals}
 use Rattle.cmm_command.specs.declared.command.RunLimits.{RunLimits}
 use Rattle.cmm_command.specs.FirstWords.{first_words}
 use Rattle.cmm_command.specs.Numbers.{number_of, stack_of, steps_of}
-use Rattle.cmm_command.specs.Options.{build_app, elf_app, exec_app, generate_app, run_app, segments_app, walk_app}
+use Rattle.cmm_command.specs.Options.{build_app, elf_app, exec_app, generate_app, migrate_app, run_app, segments_app, walk_app}
 use Rattle.cmm_command.specs.Reading.{sorted}
-use Rattle.cmm_command.specs.Meaning.{build, elf, exec, generate, meaning_by, meaning_of, run, segments, walk}
+use Rattle.cmm_command.specs.Meaning.{build, elf, exec, generate, meaning_by, meaning_of, migrate, run, segments, walk}
 
 unfoldable pub opened : Unit {0}
-unfolding clap_on_literals first_words number_of stack_of steps_of build_app elf_app exec_app generate_app run_app segments_app walk_app sorted meaning_by meaning_of
+unfolding clap_on_literals first_words number_of stack_of steps_of build_app elf_app exec_app generate_app migrate_app run_app segments_app walk_app sorted meaning_by meaning_of
 opened = tt
 
 abbrev usual : RunLimits
@@ -75,6 +75,10 @@ image_before_its_file = refl
 no_file : meaning_of (codes "elf" ∷ codes "x" ∷ []) ≡ None
 unfolding opened
 no_file = refl
+
+image_of_another_version : meaning_of (codes "migrate" ∷ codes "x" ∷ codes "-o" ∷ codes "y" ∷ []) ≡ Some (migrate (codes "x") (codes "y"))
+unfolding opened
+image_of_another_version = refl
 
 one_file : meaning_of (codes "segments" ∷ codes "--" ∷ codes "-o" ∷ []) ≡ Some (segments (codes "-o"))
 unfolding opened

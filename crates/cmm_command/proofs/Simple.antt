@@ -2,7 +2,7 @@
 use Rattle.std.proofs.Common.{◌≡◌, sym, subst, true, refl}
 use Rattle.clap.specs.Words.{App, is_simple_and_free}
 use Rattle.clap.proofs.OnLiterals.{clap_on_literals}
-use Rattle.cmm_command.specs.Options.{build_app, elf_app, exec_app, generate_app, run_app, segments_app, walk_app}
+use Rattle.cmm_command.specs.Options.{build_app, elf_app, exec_app, generate_app, migrate_app, run_app, segments_app, walk_app}
 
 build_is_simple : is_simple_and_free build_app ≡ true
 unfolding clap_on_literals build_app
@@ -28,6 +28,10 @@ elf_is_simple : is_simple_and_free elf_app ≡ true
 unfolding clap_on_literals elf_app
 elf_is_simple = refl
 
+migrate_is_simple : is_simple_and_free migrate_app ≡ true
+unfolding clap_on_literals migrate_app
+migrate_is_simple = refl
+
 segments_is_simple : is_simple_and_free segments_app ≡ true
 unfolding clap_on_literals segments_app
 segments_is_simple = refl
@@ -52,6 +56,9 @@ generate_simple made is = same made generate_app is generate_is_simple
 
 pub elf_simple : (made : App) → made ≡ elf_app → is_simple_and_free made ≡ true
 elf_simple made is = same made elf_app is elf_is_simple
+
+pub migrate_simple : (made : App) → made ≡ migrate_app → is_simple_and_free made ≡ true
+migrate_simple made is = same made migrate_app is migrate_is_simple
 
 pub segments_simple : (made : App) → made ≡ segments_app → is_simple_and_free made ≡ true
 segments_simple made is = same made segments_app is segments_is_simple

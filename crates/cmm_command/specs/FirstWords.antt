@@ -11,10 +11,11 @@ spelling_of first.Exec = codes "exec"
 spelling_of first.Walk = codes "walk"
 spelling_of first.Generate = codes "gen"
 spelling_of first.Elf = codes "elf"
+spelling_of first.Migrate = codes "migrate"
 spelling_of first.Segments = codes "segments"
 
 unfoldable pub first_words : List FirstWord
-first_words = first.Build ∷ first.Run ∷ first.Exec ∷ first.Walk ∷ first.Generate ∷ first.Elf ∷ first.Segments ∷ []
+first_words = first.Build ∷ first.Run ∷ first.Exec ∷ first.Walk ∷ first.Generate ∷ first.Elf ∷ first.Migrate ∷ first.Segments ∷ []
 
 -- the first word that a word is
 abbrev pub first_word_of : List ℕ → Option FirstWord

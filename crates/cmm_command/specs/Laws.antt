@@ -3,7 +3,7 @@ use Rattle.std.specs.Prelude.{◌≡◌, ◌%◌, ◌≤◌, List, length, Some,
 use Rattle.std.specs.List.{All}
 use Rattle.clap.specs.Words.{Text}
 use Rattle.cmm_command.specs.declared.command.RunLimits.{RunLimits}
-use Rattle.cmm_command.specs.Meaning.{Meaning, build, elf, exec, generate, meaning_of, run, segments, walk}
+use Rattle.cmm_command.specs.Meaning.{Meaning, build, elf, exec, generate, meaning_of, migrate, run, segments, walk}
 use Rattle.cmm_outside.specs.declared.storage.TheConstants.{NAME_LIMIT}
 
 -- a name that a file may have
@@ -23,6 +23,7 @@ IsInRange (exec units client limits) = All IsName units × IfSome client IsName 
 IsInRange (walk image snapshot) = IsName image × IsName snapshot
 IsInRange (generate number) = number ≤ 999999999
 IsInRange (elf image file) = IsName image × IsName file
+IsInRange (migrate image file) = IsName image × IsName file
 IsInRange (segments file) = IsName file
 
 abbrev pub CommandsAreInRange : Type 0

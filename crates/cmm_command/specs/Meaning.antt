@@ -8,7 +8,7 @@ use Rattle.cmm_command.specs.declared.command.RunLimits.{RunLimits}
 use Rattle.cmm_command.specs.declared.first_word.FirstWord.{FirstWord}
 use Rattle.cmm_command.specs.declared.first_word.FirstWord.TheVariants as first
 use Rattle.cmm_command.specs.FirstWords.{first_word_in}
-use Rattle.cmm_command.specs.Options.{build_app, elf_app, exec_app, generate_app, run_app, segments_app, walk_app}
+use Rattle.cmm_command.specs.Options.{build_app, elf_app, exec_app, generate_app, migrate_app, run_app, segments_app, walk_app}
 use Rattle.cmm_command.specs.Reading.{◌>>=◌, file_if_given, file_of, files_of, limits_of, number_in, sorted}
 
 -- a command, with the texts that it names
@@ -19,6 +19,7 @@ pub data Meaning : Type 0 where
   walk : Text → Text → Meaning
   generate : ℕ → Meaning
   elf : Text → Text → Meaning
+  migrate : Text → Text → Meaning
   segments : Text → Meaning
 
 abbrev pub plain : Command → Meaning
@@ -28,6 +29,7 @@ plain (command.Exec units client limits) = exec (map (λ s. s.now) units) (optio
 plain (command.Walk image snapshot) = walk image.now snapshot.now
 plain (command.Generate number) = generate number
 plain (command.Elf image file) = elf image.now file.now
+plain (command.Migrate image file) = migrate image.now file.now
 plain (command.Segments file) = segments file.now
 
 abbrev pub build_of : List Row → Option Meaning
@@ -58,6 +60,7 @@ meaning_by first.Exec words = sorted exec_app words >>= exec_of
 meaning_by first.Walk words = two_files walk_app (codes "snapshot") words >>= λ files. Some (walk files.0 files.1)
 meaning_by first.Generate words = sorted generate_app words >>= generate_of
 meaning_by first.Elf words = two_files elf_app (codes "file") words >>= λ files. Some (elf files.0 files.1)
+meaning_by first.Migrate words = two_files migrate_app (codes "file") words >>= λ files. Some (migrate files.0 files.1)
 meaning_by first.Segments words = sorted segments_app words >>= segments_of
 
 -- what words mean, by the first of them

@@ -48,5 +48,8 @@ generate_app = with_rule (helpless_app (codes "gen")) (operand (codes "number"))
 unfoldable pub elf_app : App
 elf_app = with_rule (with_rule (helpless_app (codes "elf")) (operand (codes "image"))) (output (codes "file"))
 
+unfoldable pub migrate_app : App
+migrate_app = with_rule (with_rule (helpless_app (codes "migrate")) (operand (codes "image"))) (output (codes "file"))
+
 unfoldable pub segments_app : App
 segments_app = with_rule (helpless_app (codes "segments")) (operand (codes "file"))

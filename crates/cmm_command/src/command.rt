@@ -66,6 +66,13 @@ pub enum Command<'a> {
         /// The file that is written.
         file: &'a str,
     },
+    /// To write the bytes of version 2 of an image of version 1.
+    Migrate {
+        /// The file of the image.
+        image: &'a str,
+        /// The file that is written.
+        file: &'a str,
+    },
     /// To tell the segments of an ELF file.
     Segments {
         /// The ELF file.

@@ -12,16 +12,18 @@ pub enum FirstWord {
     Walk,
     Generate,
     Elf,
+    Migrate,
     Segments,
 }
 
-const FIRST_WORDS: [FirstWord; 7] = [
+const FIRST_WORDS: [FirstWord; 8] = [
     FirstWord::Build,
     FirstWord::Run,
     FirstWord::Exec,
     FirstWord::Walk,
     FirstWord::Generate,
     FirstWord::Elf,
+    FirstWord::Migrate,
     FirstWord::Segments,
 ];
 
@@ -37,6 +39,7 @@ impl FirstWord {
             FirstWord::Walk => "walk",
             FirstWord::Generate => "gen",
             FirstWord::Elf => "elf",
+            FirstWord::Migrate => "migrate",
             FirstWord::Segments => "segments",
         }
     }

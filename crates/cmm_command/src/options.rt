@@ -13,7 +13,7 @@ pub const UNIT: &str = "unit";
 /// The file of the image.
 pub const IMAGE: &str = "image";
 
-/// The ELF file.
+/// The ELF file, or that of an image that is written.
 pub const FILE: &str = "file";
 
 /// The file to which a program was saved.
@@ -86,6 +86,16 @@ pub fn elf<'a>(alloc: Global) -> Result<Command<'a>, AllocError>
     ensures { IfOk result (λ c. app_of c ≡ options.elf_app) }
 {
     let command = helpless(alloc, "elf")
+        .arg(operand(alloc, IMAGE))?
+        .arg(output(alloc, FILE))?;
+    Ok(command)
+}
+
+/// What `migrate` takes.
+pub fn migrate<'a>(alloc: Global) -> Result<Command<'a>, AllocError>
+    ensures { IfOk result (λ c. app_of c ≡ options.migrate_app) }
+{
+    let command = helpless(alloc, "migrate")
         .arg(operand(alloc, IMAGE))?
         .arg(output(alloc, FILE))?;
     Ok(command)

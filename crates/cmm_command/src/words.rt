@@ -49,6 +49,7 @@ fn asked<'a>(
         FirstWord::Walk => walk(alloc, words),
         FirstWord::Generate => generate(alloc, words),
         FirstWord::Elf => elf(alloc, words),
+        FirstWord::Migrate => migrate(alloc, words),
         FirstWord::Segments => segments(alloc, words),
     }
 }
@@ -124,6 +125,15 @@ fn elf<'a>(alloc: Global, words: &'a [String]) -> Result<Command<'a>, CommandFau
 {
     let (image, file) = sorted::two_files(options::elf(alloc)?, FILE, words)?;
     Ok(Command::Elf { image, file })
+}
+
+/// What words that begin with `migrate` ask for.
+#[tactic(auto, using(crate::proofs::Simple::migrate_simple), unfolding(crate::specs::Meaning::meaning_by))]
+fn migrate<'a>(alloc: Global, words: &'a [String]) -> Result<Command<'a>, CommandFault>
+    ensures { Gives plain (meaning_by first.Migrate (map string_bytes words.entry.now)) result }
+{
+    let (image, file) = sorted::two_files(options::migrate(alloc)?, FILE, words)?;
+    Ok(Command::Migrate { image, file })
 }
 
 /// What words that begin with `segments` ask for.

@@ -1,8 +1,9 @@
 -- Sites whose variables have one place: the places of each are under those of all sites of its procedure together.
-use Rattle.std.proofs.Common.{◌≡◌, ◌⊎◌, inl, inr, ℕ, zero, suc, ◌||◌, ◌&&◌, Bool, true, false, not, nat_eq, List, [], ◌∷◌, length, take, filter, replicate, slice_get, slice_index_or, Option, Some, None, refl, sym, ap, subst, ◌∙◌, arith}
+use Rattle.std.proofs.Common.{◌≡◌, All, ◌⊎◌, inl, inr, ℕ, zero, suc, ◌||◌, ◌&&◌, Bool, true, false, not, nat_eq, List, [], ◌∷◌, length, take, filter, replicate, slice_get, slice_index_or, Option, Some, None, refl, sym, ap, subst, ◌∙◌, arith}
 use Rattle.std.specs.List.{list_any}
 use Rattle.std.proofs.lemmas.Bool.{and_cases, both_ways, eq-eqb, eqb-true, not-false, or_parts}
 use Rattle.std.proofs.lemmas.List.{length-replicate}
+use Rattle.std.proofs.lemmas.List.Elements.{All-head, All-tail}
 use Rattle.cmm_image.specs.declared.rows.SiteRow.{SiteRow}
 use Rattle.cmm_image.specs.declared.rows.VariablePlace.{VariablePlace}
 use Rattle.cmm_image.specs.declared.rows.VariablePlace.TheVariants.{Dead, Slot, Register}
@@ -241,3 +242,11 @@ module _ (places : ℕ → List VariablePlace) where
       by : (o : Option SiteRow) → slice_get ss k ≡ o → differs_from (take k ss) v o ≡ false
       by None e = refl
       by (Some t) e = none_moved v (take k ss) t (each_taken k ss all) (each_there k ss t all e)
+
+each_of : (P : SiteRow → Type 0) (ss : List SiteRow) → All P ss → Each P ss
+each_of P [] all = tt
+each_of P (s ∷ ss) all = (All-head P s ss all, each_of P ss (All-tail P s ss all))
+
+-- where the places of each site are under those of its procedure, each variable has one
+pub places_are_one : (places : ℕ → List VariablePlace) (ss : List SiteRow) → All (λ s. Under (places s.procedure) s.variables) ss → HaveOnePlace ss
+places_are_one places ss all = one_place places ss (each_of (λ s. Under (places s.procedure) s.variables) ss all)

@@ -12,6 +12,7 @@ use Rattle.cmm_format.specs.Formats.{AreRows, HoldsOptional}
 use Rattle.cmm_image.specs.ImageFormat.{continuation, formed, is_code_length, is_in_code, procedure, saved_register, site, stack_label}
 use Rattle.cmm_image.specs.Bounds.{BoundsProcedure, BoundsSite}
 use Rattle.cmm_image.specs.Laws.{RowsAreBounded}
+use Rattle.cmm_image.proofs.WholeLaws.{first_holds}
 
 is_most : (n most : ℕ) → IsTrue (nat_le n most) → n ≤ most
 is_most n most h = grind (arith, nat_tests)
@@ -75,7 +76,7 @@ pub rows_are_bounded : RowsAreBounded
 rows_are_bounded i h = record {
   code = is_short (length i.code) h.fields.0.1.1.0.1.0;
   initial = is_most (length i.initial) DATA_LENGTH_LIMIT h.fields.0.1.1.1.0.1.0;
-  procedures = rows_keep (λ previous. (procedure (length i.code) previous).Holds) BoundsProcedure (bounds_procedure (length i.code)) None i.procs h.fields.1.1.1.0.0.1;
+  procedures = rows_keep (λ previous. (procedure (length i.code) previous).Holds) BoundsProcedure (bounds_procedure (length i.code)) None i.procs (first_holds i h).0.1;
   sites = rows_keep (λ previous. (site (length i.code) i.procs previous).Holds) (BoundsSite (length i.code)) (bounds_site (length i.code) i.procs) None i.sites
-      h.fields.1.1.1.0.1.1;
+      (first_holds i h).1.1;
 }

@@ -1,4 +1,4 @@
--- The image's format reads what it spells and nothing else.
+-- The header, the symbols and the tables of version 1 read what they spell and nothing else.
 use Rattle.std.proofs.Common.{◌≡◌, ℕ, zero, suc, ◌%◌, Bool, true, false, ◌||◌, IsTrue, if◌then◌else◌, nat_le, nat_lt, nat_eq, List, [], ◌∷◌, length, Option, None, refl, sym, arith}
 use Rattle.std.specs.Option.{option_map}
 use Rattle.std.proofs.lemmas.Bool.{eqb-true}
@@ -8,7 +8,6 @@ use Rattle.cmm_words.specs.declared.width.Width.{Width}
 use Rattle.cmm_words.specs.declared.width.Width.TheVariants.{W8, W16, W32, W64}
 use Rattle.cmm_words.specs.Widths.{bits}
 use Rattle.rv_table.specs.declared.memory_map.TheConstants.{DATA_LENGTH_LIMIT, GLOBAL_COUNT_LIMIT}
-use Rattle.cmm_image.specs.declared.header.Header.{Header}
 use Rattle.cmm_image.specs.declared.rows.VariableNumber.{VariableNumber}
 use Rattle.cmm_image.specs.declared.rows.ContinuationNumber.{ContinuationNumber}
 use Rattle.cmm_image.specs.declared.rows.SavedRegister.{SavedRegister}
@@ -24,10 +23,9 @@ use Rattle.cmm_image.specs.declared.rows.LabelRow.{LabelRow}
 use Rattle.cmm_image.specs.declared.rows.GlobalRow.{GlobalRow}
 use Rattle.cmm_abi.specs.Registers.{is_callee_saves}
 use Rattle.cmm_image.specs.Places.{leaves}
-use Rattle.cmm_image.specs.ImageFormat.{formed, within, in_code, is_in_data, above, after, is_width, width_of, width, one_if, magic, is_code_length, is_procedure_count, HeaderFields, header_of, header_fields, counts, header, saved_register, variable, stack_label, variable_number, is_pair, continuation, no_return, is_return_offset, procedure_of, procedure_fields, procedure_with, procedure, has_sites, continuation_number, unwind, span, flags_of, flags_number, flags, is_version, exits_in_code, SiteLists, lists_with, procedure_at, site_of_fields, site_fields, site_with, site, label, global, Tables}
-use Rattle.cmm_image.specs.WholeImage.{image_of, image_fields, image, tables}
+use Rattle.cmm_image.specs.ImageFormat.{formed, within, in_code, is_in_data, above, after, is_width, width_of, width, one_if, magic, is_code_length, is_procedure_count, HeaderFields, header_of, header_fields, counts, header, saved_register, variable, stack_label, variable_number, is_pair, continuation, no_return, is_return_offset, procedure_of, procedure_fields, procedure_with, procedure, has_sites, continuation_number, unwind, span, flags_of, flags_number, flags, is_version, exits_in_code, SiteLists, lists_with, procedure_at, site_of_fields, site_fields, site_with, site, label, global, first_tables}
 use Rattle.cmm_format.specs.Formats.{Condition, Format}
-use Rattle.cmm_format.proofs.Shared.{IsExact, number-exact, block-exact, text-exact, when-exact, optional-exact}
+use Rattle.cmm_format.proofs.Shared.{IsExact, number-exact, text-exact, when-exact, optional-exact}
 use Rattle.cmm_format.proofs.Shared.{then-exact, as-exact, rows-exact, counted-exact}
 use Rattle.cmm_image.proofs.PlaceLaws.{place-exact}
 
@@ -171,19 +169,19 @@ site-exact code_length procedures previous =
 
 -- ---- labels and global registers
 
-label-exact : (data_length : ℕ) (previous : Option LabelRow) → IsExact (label data_length previous)
+pub label-exact : (data_length : ℕ) (previous : Option LabelRow) → IsExact (label data_length previous)
 label-exact data_length previous = as-exact (λ x. record { name = x.0; address = x.1 }) (λ l. (l.name, l.address))
     (then-exact (when-exact (after (option_map (λ l. l.name) previous) ∷ []) (text-exact _)) λ (name : List ℕ).
     when-exact (within (is_in_data data_length) ∷ []) (number-exact _ 8))
     (λ b holds. refl) (λ a holds. refl)
 
-global-exact : (previous : Option GlobalRow) → IsExact (global previous)
+pub global-exact : (previous : Option GlobalRow) → IsExact (global previous)
 global-exact previous = as-exact (λ x. record { width = x.0; name = x.1 }) (λ g. (g.width, g.name))
     (then-exact width-exact λ (width : Width).
     when-exact (after (option_map (λ g. g.name) previous) ∷ []) (text-exact _))
     (λ b holds. refl) (λ a holds. refl)
 
--- ---- the whole
+-- ---- the header, and the tables
 
 counts-exact : IsExact counts
 counts-exact =
@@ -199,7 +197,7 @@ header-same : (front version code initial start last procedures sites labels glo
     → ◌≡◌ {A = HeaderFields} (magic, (version, (code, (initial, (start, (last, (procedures, (sites, (labels, (globals, (main, 0))))))))))) (front, (version, (code, (initial, (start, (last, (procedures, (sites, (labels, (globals, (main, nothing)))))))))))
 header-same front version code initial start last procedures sites labels globals main nothing e f = rw (e, f) refl
 
-header-exact : IsExact header
+pub header-exact : IsExact header
 header-exact = as-exact header_of header_fields
     (then-exact (when-exact (record { rule = NotAnImage; holds = λ n. nat_eq n magic } ∷ []) (number-exact _ 4)) λ (front : ℕ).
     then-exact (when-exact (record { rule = OtherImageVersion; holds = is_version } ∷ []) (number-exact _ 4)) λ (version : ℕ).
@@ -212,24 +210,7 @@ header-exact = as-exact header_of header_fields
     (λ a holds. header-same a.0 a.1.0 a.1.1.0 a.1.1.1.0 a.1.1.1.1.0 a.1.1.1.1.1.0 a.1.1.1.1.1.1.0 a.1.1.1.1.1.1.1.0 a.1.1.1.1.1.1.1.1.0 a.1.1.1.1.1.1.1.1.1.0 a.1.1.1.1.1.1.1.1.1.1.0 a.1.1.1.1.1.1.1.1.1.1.1
     (eqb-true a.0 magic holds.0.1.0) (eqb-true a.1.1.1.1.1.1.1.1.1.1.1 0 holds.1.1.1.1.1.1.1.1.1.1.1.1.0))
 
-tables-exact : (h : Header) → IsExact (tables h)
-tables-exact h =
-    then-exact (rows-exact (procedure-exact h.code_length) (λ p a. refl) h.procedures) λ (procedures : List ProcRow).
-    rows-exact (site-exact h.code_length procedures) (λ p a. refl) h.sites
-
--- the header counts what follows
-image-same : (h : Header) (code initial : List ℕ) (procs : List ProcRow) (sites : List SiteRow) (labels : List LabelRow) (globals : List GlobalRow)
-    → length code ≡ h.code_length → length initial ≡ h.data_length → length procs ≡ h.procedures → length sites ≡ h.sites → length labels ≡ h.labels → length globals ≡ h.globals
-    → image_fields (image_of (h, (code, (initial, ((procs, sites), (labels, globals)))))) ≡ (h, (code, (initial, ((procs, sites), (labels, globals)))))
-image-same h code initial procs sites labels globals a b c d e f = rw (a, b, c, d, e, f) refl
-
-pub image-exact : IsExact image
-image-exact = as-exact image_of image_fields
-    (then-exact header-exact λ (h : Header).
-    then-exact (block-exact _ h.code_length) λ (code : List ℕ).
-    then-exact (block-exact _ h.data_length) λ (initial : List ℕ).
-    then-exact (tables-exact h) λ (tables : Tables).
-    then-exact (rows-exact (label-exact h.data_length) (λ p a. refl) h.labels) λ (labels : List LabelRow).
-    rows-exact global-exact (λ p a. refl) h.globals)
-    (λ b holds. refl)
-    (λ a holds. image-same a.0 a.1.0 a.1.1.0 a.1.1.1.0.0 a.1.1.1.0.1 a.1.1.1.1.0 a.1.1.1.1.1 holds.1.0.0 holds.1.1.0.0 holds.1.1.1.0.0.0 holds.1.1.1.0.1.0 holds.1.1.1.1.0.0 holds.1.1.1.1.1.0)
+pub first-exact : (code_length procedures sites : ℕ) → IsExact (first_tables code_length procedures sites)
+first-exact code_length procedures sites =
+    then-exact (rows-exact (procedure-exact code_length) (λ p a. refl) procedures) λ (procs : List ProcRow).
+    rows-exact (site-exact code_length procs) (λ p a. refl) sites

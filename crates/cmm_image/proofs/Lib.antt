@@ -12,6 +12,7 @@ mod OrderLaws
 mod SecondLaws
 mod DistinctLaws
 mod FirstLaws
+mod WholeLaws
 mod LiveLaws
 mod RecordLaws
 mod SortLaws
@@ -25,5 +26,7 @@ mod MigrationLaws
 mod OnePlaceLaws
 mod DifferenceLaws
 mod OffsetLaws
+mod SizeLaws
+mod MigratingLaws
 mod MigrationRows
 pub mod Shared

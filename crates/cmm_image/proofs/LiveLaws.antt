@@ -1,7 +1,6 @@
 -- Reading the bits of a site, and merging the places that sites give.
-use Rattle.std.proofs.Common.{◌≡◌, ℕ, zero, suc, ◌+◌, ◌-◌, ◌/◌, ◌%◌, ◌<◌, ◌≤◌, ◌==◌, ◌||◌, ◌&&◌, Bool, true, false, not, IsTrue, nat_eq, if◌then◌else◌, List, [], ◌∷◌, ◌++◌, length, take, drop, slice_index_or, set, Ok, Err, refl, sym, ap, ◌∙◌, append_assoc, add-one, drop-cons, subst, min, arith, inl, inr}
+use Rattle.std.proofs.Common.{◌≡◌, ℕ, suc, ◌+◌, ◌/◌, ◌%◌, ◌<◌, ◌||◌, ◌&&◌, Bool, true, false, IsTrue, nat_eq, List, [], ◌∷◌, ◌++◌, length, take, drop, slice_index_or, Ok, Err, refl, sym, ap, ◌∙◌, append_assoc, add-one, drop-cons, subst, min, arith, inl, inr}
 use Rattle.std.proofs.lemmas.Bool.{cases_lt}
-use Rattle.std.proofs.lemmas.Bool.Decides.{nat_tests}
 use Rattle.std.proofs.lemmas.List.{append-nil, drop_all, length-drop, take-append-drop, take_all}
 use Rattle.cmm_format.specs.Formats.{◌>>=◌, Front, ◌when◌}
 use Rattle.cmm_format.proofs.Shared.{with_front}
@@ -9,9 +8,8 @@ use Rattle.cmm_format.specs.Reading.{Reads}
 use Rattle.cmm_format.specs.declared.fault.Unread.{Unread}
 use Rattle.cmm_format.specs.declared.fault.Unread.TheVariants.{Breaks, Memory}
 use Rattle.cmm_image.specs.declared.rows.VariablePlace.{VariablePlace}
-use Rattle.cmm_image.specs.declared.rows.VariablePlace.TheVariants.{Dead}
 use Rattle.cmm_image.specs.ImageFormat.{formed, u8}
-use Rattle.cmm_image.specs.SecondFormat.{are_among, is_live, is_mask, live_places, mask_count, masked, masks, or_place, or_places}
+use Rattle.cmm_image.specs.SecondFormat.{is_live, is_mask, live_places, mask_count, masked, masks, or_places}
 
 -- ---- places that are merged up to a number
 

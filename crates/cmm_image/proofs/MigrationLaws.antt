@@ -148,10 +148,10 @@ has_below (p ∷ ps) zero has = omega arith
 has_below (p ∷ ps) (suc n) has = (let rest = has_below ps n has in omega (arith, rest))
 
 module _ (code_length : ℕ) (procs : List ProcRow) where
-  abbrev Fits : SiteRow → Type 0
+  abbrev pub Fits : SiteRow → Type 0
   Fits s = (site code_length procs None).Holds s
 
-  fits : (previous : Option SiteRow) (ss : List SiteRow) → AreRows (λ previous. (site code_length procs previous).Holds) previous ss → Each Fits ss
+  pub fits : (previous : Option SiteRow) (ss : List SiteRow) → AreRows (λ previous. (site code_length procs previous).Holds) previous ss → Each Fits ss
   fits previous [] rows = tt
   fits previous (s ∷ ss) rows = (((rows.0.0.0, (refl, rows.0.0.1.1)), rows.0.1), fits (Some s) ss rows.1)
 
@@ -160,7 +160,7 @@ module _ (code_length : ℕ) (procs : List ProcRow) where
   rising previous [] rows = tt
   rising previous (s ∷ ss) rows = (rows.0.0.1.0, rising (Some s) ss rows.1)
 
-  below : (ss : List SiteRow) → Each Fits ss → Each (λ s. s.procedure < length procs) ss
+  pub below : (ss : List SiteRow) → Each Fits ss → Each (λ s. s.procedure < length procs) ss
   below [] all = tt
   below (s ∷ ss) all = (has_below procs s.procedure all.0.1.0.1.0, below ss all.1)
 

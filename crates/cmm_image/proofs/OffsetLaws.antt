@@ -1,5 +1,5 @@
--- At its offset in the bytes of version 1 stands the place of a variable at a site.
-use Rattle.std.proofs.Common.{◌≡◌, ℕ, zero, suc, ◌+◌, ◌*◌, ◌≤◌, List, [], ◌∷◌, ◌++◌, length, take, drop, flat_map, slice_get, Some, None, refl, sym, ap, ◌∙◌, append_assoc, arith}
+-- At its offset in the bytes of version 1 stands the place of a variable at a site, and so many bytes stand before it.
+use Rattle.std.proofs.Common.{◌≡◌, ℕ, zero, suc, ◌+◌, ◌*◌, ◌≤◌, List, [], ◌∷◌, ◌++◌, length, take, drop, flat_map, slice_get, Option, Some, None, refl, sym, ap, ◌∙◌, append_assoc, arith}
 use Rattle.std.proofs.lemmas.List.{drop-append-le, drop-drop, drop_at, length-append, length-drop}
 use Rattle.cmm_format.specs.Formats.{number_bytes, optional_number}
 use Rattle.cmm_format.proofs.Shared.{length-number_bytes}
@@ -16,6 +16,8 @@ use Rattle.cmm_image.specs.ImageFormat.{continuation_number, flags_number, proce
 use Rattle.cmm_image.specs.Migration.{bytes_before_places, bytes_to_place, first_front, place_offset}
 use Rattle.cmm_image.specs.Places.{place_bytes}
 use Rattle.cmm_image.specs.WholeImage.{header_bytes}
+use Rattle.cmm_image.specs.inside.Fronts.{before_place, in_site, site_front}
+use Rattle.cmm_image.specs.inside.Spellings.{exits}
 
 -- ---- bytes behind others
 
@@ -108,6 +110,64 @@ places_there code_length procs s n =
     ∙ dropped a7 (a8 ++ (a9 ++ b9)) (length a7) n8 refl
     ∙ dropped a8 (a9 ++ b9) (length a8) n9 refl
     ∙ dropped a9 b9 (length a9) n refl
+
+-- ---- bytes that are counted
+
+site_front_long : (s : SiteRow) → length (site_front s) ≡ bytes_before_places s
+site_front_long s =
+    let a5 = number_bytes 1 (optional_number 255 s.yield_values) in
+    let a4 = number_bytes 1 (flags_number (s.never_returns, s.aborts)) in
+    let a3 = number_bytes 4 s.number in
+    let a2 = number_bytes 4 s.procedure in
+    let b9 = number_bytes 2 (length s.cuts) ++ flat_map (continuation_number 0 None).spelled s.cuts in
+    let b8 = number_bytes 2 (length s.unwinds) ++ flat_map (unwind 0 0 None).spelled s.unwinds in
+    let b7 = number_bytes 1 (length s.returns) ++ flat_map (continuation_number 0 None).spelled s.returns in
+    let b6 = number_bytes 1 (length s.results) ++ flat_map width.spelled s.results in
+    let results = counted_long 1 (length s.results) (flat_map width.spelled s.results) in
+    let returns = counted_long 1 (length s.returns) (flat_map (continuation_number 0 None).spelled s.returns) in
+    let unwinds = counted_long 2 (length s.unwinds) (flat_map (unwind 0 0 None).spelled s.unwinds) in
+    let cuts = counted_long 2 (length s.cuts) (flat_map (continuation_number 0 None).spelled s.cuts) in
+    let own = exits s in
+    omega (
+      arith,
+      counted_long 8 s.return_address (a2 ++ ((a3 ++ (a4 ++ a5)) ++ own)),
+      counted_long 4 s.procedure ((a3 ++ (a4 ++ a5)) ++ own),
+      length-append (a3 ++ (a4 ++ a5)) own,
+      counted_long 4 s.number (a4 ++ a5),
+      counted_long 1 (flags_number (s.never_returns, s.aborts)) a5,
+      length-number_bytes 1 (optional_number 255 s.yield_values),
+      length-append b6 (b7 ++ (b8 ++ b9)),
+      length-append b7 (b8 ++ b9),
+      length-append b8 b9,
+      results,
+      returns,
+      unwinds,
+      cuts,
+      ones_long s.results,
+      twos_long 0 s.returns,
+      tens_long 0 0 s.unwinds,
+      twos_long 0 s.cuts,
+    )
+
+in_site_long : (v : ℕ) (o : Option SiteRow) → length (in_site v o) ≡ bytes_to_place v o
+in_site_long v None = refl
+in_site_long v (Some s) = length-append (site_front s) (flat_map place_bytes (take v s.variables)) ∙ ap (λ (n : ℕ). n + length (flat_map place_bytes (take v s.variables))) (site_front_long s)
+
+pub before_long : (i : ImageParts) (k v : ℕ) → length (before_place i k v) ≡ place_offset i k v
+before_long i k v =
+    let header = header_bytes i in
+    let rows = flat_map (procedure 0 None).spelled i.procs in
+    let sites = flat_map (site 0 [] None).spelled (take k i.sites) in
+    let own = in_site v (slice_get i.sites k) in
+    omega (
+      arith,
+      length-append (header ++ (i.code ++ (i.initial ++ rows))) (sites ++ own),
+      length-append header (i.code ++ (i.initial ++ rows)),
+      length-append i.code (i.initial ++ rows),
+      length-append i.initial rows,
+      length-append sites own,
+      in_site_long v (slice_get i.sites k),
+    )
 
 -- ---- the whole
 

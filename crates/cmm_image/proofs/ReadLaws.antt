@@ -11,7 +11,7 @@ use Rattle.cmm_image.specs.declared.parts.ImageParts.{ImageParts}
 use Rattle.cmm_image.specs.declared.reading.TheConstants.{IMAGE_LIMIT}
 use Rattle.cmm_image.specs.Images.{SpellsImage, image_ends, image_in, IsFirstFault, ImageFaultAt, IsImageRead, IsRefusal}
 use Rattle.cmm_image.specs.inside.Wholes.{fault_of}
-use Rattle.cmm_image.proofs.ImageLaws.{image-exact}
+use Rattle.cmm_image.proofs.WholeLaws.{image-exact}
 
 -- what is read is spelled so
 pub spelled-so : (bytes : List ℕ) (i : ImageParts) → AreBytes bytes → image_in bytes ≡ Ok i → SpellsImage bytes i

@@ -1,8 +1,7 @@
 -- Reading the records of procedures one after another, and what their sites keep.
-use Rattle.std.proofs.Common.{◌≡◌, ℕ, zero, suc, ◌-◌, ◌+◌, ◌<◌, ◌≤◌, ◌||◌, false, true, Bool, nat_eq, nat_lt, List, [], ◌∷◌, ◌++◌, length, map, flat_map, take, Option, Some, None, slice_get, Ok, Err, refl, sym, ap, subst, ◌∙◌, append_assoc, arith}
+use Rattle.std.proofs.Common.{◌≡◌, ℕ, zero, suc, ◌-◌, ◌+◌, ◌<◌, ◌≤◌, ◌||◌, false, Bool, nat_eq, List, [], ◌∷◌, ◌++◌, length, map, flat_map, take, slice_get, Ok, Err, refl, sym, ap, subst, ◌∙◌, append_assoc, arith}
 use Rattle.std.specs.List.{list_any}
 use Rattle.std.specs.Option.{option_map}
-use Rattle.std.proofs.lemmas.Bool.Decides.{nat_tests}
 use Rattle.std.proofs.lemmas.List.{append-nil, map-append}
 use Rattle.cmm_format.specs.declared.fault.Unread.{Unread}
 use Rattle.cmm_format.specs.declared.fault.Unread.TheVariants.{Breaks, Memory}

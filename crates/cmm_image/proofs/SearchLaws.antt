@@ -10,6 +10,7 @@ use Rattle.cmm_image.specs.ImageFormat.{site}
 use Rattle.cmm_image.specs.Images.{IsImage}
 use Rattle.cmm_image.specs.Sites.{no_site, returns_to, site_place}
 use Rattle.cmm_image.specs.inside.Ascending.{address_at, Ascend, Halves}
+use Rattle.cmm_image.proofs.WholeLaws.{first_holds}
 
 -- ---- the order of sites
 
@@ -36,7 +37,7 @@ ascend code_length procedures previous (s ∷ ss) rows (suc a) (suc b) less shor
     ascend code_length procedures (Some s) ss rows.1 a b (omega arith) (omega arith)
 
 pub sites_ascend : (i : ImageParts) → IsImage i → Ascend i.sites
-sites_ascend i h = ascend (length i.code) i.procs None i.sites h.fields.1.1.1.0.1.1
+sites_ascend i h = ascend (length i.code) i.procs None i.sites (first_holds i h).1.1
 
 pub sites_are_few : (i : ImageParts) → IsImage i → length i.sites < 2 ^ 32
 sites_are_few i h = h.fields.0.1.1.1.1.1.1.1.0

@@ -10,6 +10,7 @@ use Rattle.cmm_image.specs.ImageFormat.{within, is_return_offset, no_return, sav
 use Rattle.cmm_image.specs.Places.{IsPlace, leaves, variable_place}
 use Rattle.cmm_image.specs.InFrames.{KeepsFrame}
 use Rattle.cmm_image.specs.Laws.{SitesKeepFrames}
+use Rattle.cmm_image.proofs.WholeLaws.{first_holds}
 
 -- ---- procedures
 
@@ -84,4 +85,4 @@ keep_frames code_length procedures previous (s ∷ ss) procs rows (suc k) d shor
     keep_frames code_length procedures (Some s) ss procs rows.1 k d (omega arith)
 
 pub sites_keep_frames : SitesKeepFrames
-sites_keep_frames i h = keep_frames (length i.code) i.procs None i.sites h.fields.1.1.1.0.0.1 h.fields.1.1.1.0.1.1
+sites_keep_frames i h = keep_frames (length i.code) i.procs None i.sites (first_holds i h).0.1 (first_holds i h).1.1

@@ -1,5 +1,5 @@
 -- Sites that are sorted by their return addresses, no two of which are the same, stand in order.
-use Rattle.std.proofs.Common.{◌≡◌, ◌⊎◌, inl, inr, ℕ, zero, suc, ◌+◌, ◌<◌, ◌≤◌, ◌==◌, All, Bool, true, false, IsTrue, nat_eq, nat_lt, List, [], ◌∷◌, length, get_or, Option, Some, None, refl, sym, ap, subst, ◌∙◌, arith}
+use Rattle.std.proofs.Common.{◌≡◌, ◌⊎◌, inl, inr, ℕ, zero, suc, ◌+◌, ◌<◌, All, Bool, true, false, IsTrue, nat_eq, nat_lt, List, [], ◌∷◌, length, get_or, Option, Some, None, refl, sym, ap, subst, ◌∙◌, arith}
 use Rattle.std.specs.List.{IsDistinct}
 use Rattle.std.specs.List.Sorted.{IsPermutation, IsSortedBy}
 use Rattle.std.specs.Ordering.{is_lt, nat_cmp}
@@ -7,7 +7,6 @@ use Rattle.std.proofs.lemmas.Bool.Decides.{nat_tests}
 use Rattle.std.proofs.lemmas.List.Sorted.{All-permutation, IsPermutation-sym}
 use Rattle.std.proofs.lemmas.Map.Keys.{IsDistinct-from_apart, IsDistinct-IsPermutation, IsDistinct-tail, apart_from_distinct}
 use Rattle.cmm_image.specs.declared.rows.SiteRow.{SiteRow}
-use Rattle.cmm_image.specs.ImageFormat.{is_above}
 use Rattle.cmm_image.specs.SecondFormat.{in_order, put_in}
 use Rattle.cmm_image.specs.inside.Records.{Apart, Distinct}
 use Rattle.cmm_image.proofs.DistinctLaws.{order_rises}

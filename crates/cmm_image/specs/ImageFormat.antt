@@ -1,5 +1,5 @@
--- The fields of an image in version 1, a line each, in their order, with their conditions in the order in which they are tested; in version 2 too,
--- apart from the tables of procedures and sites (`SecondFormat`).
+-- The fields of an image, a line each, in their order, with their conditions in the order in which they are tested: those of version 1. Version 2 has
+-- other tables of procedures and sites (`SecondFormat`).
 use Rattle.std.specs.Prelude.{ℕ, ◌+◌, ◌*◌, ◌%◌, ◌==◌, ◌&&◌, ◌||◌, nat_lt, nat_le, Bool, true, false, if◌then◌else◌, List, [], ◌∷◌, length, slice_get, is_some, Option, Some, None}
 use Rattle.std.specs.Option.{option_map}
 use Rattle.std.specs.Cmp.Lexicographic.{slice_cmp}
@@ -98,7 +98,7 @@ abbrev pub magic : ℕ
 magic = 0x494d4d43
 
 abbrev pub is_version : ℕ → Bool
-is_version n = n == 1
+is_version n = (n == 1) || (n == 2)
 
 abbrev pub is_code_length : ℕ → Bool
 is_code_length n = nat_le 4 n && nat_le n CODE_LENGTH_LIMIT && (n % 4 == 0)

@@ -1,5 +1,5 @@
 -- What holds of all bytes, and of all images.
-use Rattle.std.specs.Prelude.{◌≡◌, ℕ, ◌⊎◌, ◌++◌, ◌<◌, ◌≤◌, ◌^◌, true, IsTrue, List, drop, slice_get, Some, Ok}
+use Rattle.std.specs.Prelude.{◌≡◌, ℕ, ◌⊎◌, ◌+◌, ◌*◌, ◌++◌, ◌<◌, ◌≤◌, ◌^◌, true, IsTrue, List, drop, length, slice_get, sum_by, Some, Ok}
 use Rattle.std.specs.List.{All}
 use Rattle.cmm_rules.specs.declared.rule.Rule.{Rule}
 use Rattle.cmm_image.specs.declared.parts.ImageParts.{ImageParts}
@@ -13,6 +13,7 @@ use Rattle.cmm_image.specs.Migration.{HaveOnePlace, IsFirstDifference, differs, 
 use Rattle.cmm_image.specs.Places.{place_bytes}
 use Rattle.cmm_image.specs.Bounds.{BoundsRows}
 use Rattle.cmm_image.specs.Images.{IsImage, SpellsImage, IsFirstFault}
+use Rattle.cmm_image.specs.Migrating.{in_version}
 
 -- bytes are an image, or they have a first fault
 abbrev pub EachMeansOneThing : Type 0
@@ -55,6 +56,21 @@ FirstKeepsSecond = (code_length procedures sites : ℕ) (t : Tables) → sites <
 -- and nowhere else
 abbrev pub SecondHasOnePlace : Type 0
 SecondHasOnePlace = (code_length procedures sites : ℕ) (t : Tables) → (second_tables code_length procedures sites).Holds t → HaveOnePlace t.1
+
+-- version 2 spells them in five bytes more than version 1 for each procedure and for each variable of one, or in fewer
+abbrev pub SecondIsShort : Type 0
+SecondIsShort = (code_length procedures sites : ℕ) (t : Tables) → (second_tables code_length procedures sites).Holds t →
+    length ((second_tables code_length procedures sites).spelled t)
+    ≤ length ((first_tables code_length procedures sites).spelled t) + sum_by (λ p. 5 + 5 * length p.variables) t.0
+
+-- one image has one spelling a version
+abbrev pub OneSpellingAVersion : Type 0
+OneSpellingAVersion = (version : ℕ) (i : ImageParts) (bytes others : List ℕ) → SpellsImage bytes (in_version version i) → SpellsImage others (in_version version i) →
+    bytes ≡ others
+
+-- and no bytes are of both versions
+abbrev pub NoBytesAreBoth : Type 0
+NoBytesAreBoth = (bytes : List ℕ) (i j : ImageParts) → SpellsImage bytes (in_version 1 i) → SpellsImage bytes (in_version 2 j) → ⊥
 
 -- of sites each variable has one place, or there is a first one with another place than before
 abbrev pub OnePlaceOrDifference : Type 0

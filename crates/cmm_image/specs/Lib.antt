@@ -7,5 +7,6 @@ pub mod Sites
 pub mod InFrames
 pub mod Bounds
 pub mod Migration
+pub mod Migrating
 pub mod Laws
 pub mod inside

@@ -1,15 +1,19 @@
--- The format of a whole image: the header, the code, the data, and the tables.
-use Rattle.std.specs.Prelude.{ℕ, List, length}
+-- The format of a whole image: the header, the code, the data, and the tables, which are those of the version that the header names.
+use Rattle.std.specs.Prelude.{ℕ, ◌==◌, Bool, List, length}
 use Rattle.cmm_rules.specs.declared.rule.Rule.TheVariants.{ImageIsCut}
 use Rattle.cmm_image.specs.declared.header.Header.{Header}
 use Rattle.cmm_image.specs.declared.parts.ImageParts.{ImageParts}
 use Rattle.cmm_image.specs.declared.rows.LabelRow.{LabelRow}
 use Rattle.cmm_image.specs.declared.rows.GlobalRow.{GlobalRow}
-use Rattle.cmm_format.specs.Formats.{Format, block, ◌▸◌, as_, rows}
+use Rattle.cmm_format.specs.Formats.{Format, block, choose, ◌▸◌, as_, rows}
 use Rattle.cmm_image.specs.ImageFormat.{Tables, first_tables, global, header, label}
+use Rattle.cmm_image.specs.SecondFormat.{second_tables}
+
+abbrev pub is_second : ℕ → Bool
+is_second version = version == 2
 
 abbrev pub tables : Header → Format Tables
-tables h = first_tables h.code_length h.procedures h.sites
+tables h = choose (is_second h.version) (second_tables h.code_length h.procedures h.sites) (first_tables h.code_length h.procedures h.sites)
 
 abbrev pub ImageFields : Type 0
 ImageFields = Header × (List ℕ × (List ℕ × (Tables × (List LabelRow × List GlobalRow))))

@@ -5,3 +5,4 @@ pub mod Ascending
 pub mod Records
 pub mod SecondSpellings
 pub mod Seen
+pub mod Fronts

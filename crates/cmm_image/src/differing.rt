@@ -8,20 +8,32 @@ use crate::live::add_places;
 use crate::rows::{SiteRow, VariablePlace};
 use std::alloc::{AllocError, Global};
 
+/// A variable that has another place at a site than at an earlier one of its procedure.
+#[derive(Clone, Copy)]
+pub(crate) struct Difference {
+    /// The number of the site in the image.
+    pub(crate) site: usize,
+    /// The number of the variable in its procedure.
+    pub(crate) variable: usize,
+}
+
 /// The first site at which a variable has another place than at an earlier site of its procedure, and the first such variable there.
 pub(crate) fn first_difference(
     alloc: Global,
     procedures: usize,
     sites: &[SiteRow],
-) -> Result<Option<(usize, usize)>, AllocError>
+) -> Result<Option<Difference>, AllocError>
     requires { All (λ s. s.procedure < procedures) sites.now }
-    ensures { IfOk result (λ found. MatchOption found (HaveOnePlace sites.now) (λ at. IsFirstDifference sites.now at.0 at.1)) }
+    ensures { IfOk result (λ found. MatchOption found (HaveOnePlace sites.now) (λ at. IsFirstDifference sites.now at.site at.variable)) }
 {
     let mut seen = nothing_seen(alloc, procedures)?;
     for (number, site) in sites.iter().enumerate() {
         let own = &mut seen[site.procedure as usize];
         if let Some(variable) = differing(own.as_slice(), site.variables.as_slice()) {
-            return Ok(Some((number, variable)));
+            return Ok(Some(Difference {
+                site: number,
+                variable,
+            }));
         }
         add_places(own, site.variables.as_slice())?;
     }

@@ -1,7 +1,7 @@
 //! The header of an image.
 
 ghost use Rattle.std.specs.Prelude.{◌≡◌, ◌∷◌, []};
-ghost use Rattle.cmm_image.specs.ImageFormat.{header, counts, in_code, is_code_length as is_length_of_code, is_procedure_count as is_count_of_procedures, u64};
+ghost use Rattle.cmm_image.specs.ImageFormat.{header, counts, in_code, is_code_length as is_length_of_code, is_procedure_count as is_count_of_procedures, is_version as is_any_version, u64};
 ghost use Rattle.cmm_format.specs.Formats.{◌when◌};
 ghost use Rattle.cmm_format.specs.Reading.{Reads, Sees};
 ghost use Rattle.cmm_image.specs.inside.Wholes.{counts_seen};
@@ -16,6 +16,9 @@ pub(crate) const MAGIC: u32 = 0x494d_4d43;
 
 /// The version whose tables are those of all procedures and then those of all sites.
 const FIRST_VERSION: u32 = 1;
+
+/// The version in which the sites of a procedure stand in its record, and the place of each of its variables once. A `build` writes it.
+pub const SECOND_VERSION: u32 = 2;
 
 /// The most procedures.
 const PROCEDURE_COUNT_LIMIT: u32 = 65_535;
@@ -60,7 +63,7 @@ pub(crate) fn read_header(reader: &mut Reader<'_>) -> Result<Header, Unread>
     require(magic == MAGIC, Rule::NotAnImage, field)?;
     let field = reader.left();
     let version = reader.u32(Rule::ImageIsCut)?;
-    require(version == FIRST_VERSION, Rule::OtherImageVersion, field)?;
+    require(is_version(version), Rule::OtherImageVersion, field)?;
     let field = reader.left();
     let code_length = reader.u64(Rule::ImageIsCut)?;
     require(is_code_length(code_length), Rule::ImageOutOfRange, field)?;
@@ -86,6 +89,13 @@ pub(crate) fn read_header(reader: &mut Reader<'_>) -> Result<Header, Unread>
         globals: counts.globals,
         main: counts.main,
     })
+}
+
+/// Whether this is a version of the format.
+fn is_version(version: u32) -> bool
+    ensures { result ≡ is_any_version version }
+{
+    version == FIRST_VERSION || version == SECOND_VERSION
 }
 
 /// Whether code may have this length, in bytes.

@@ -1,6 +1,6 @@
 //! Laws of the format: the contract of a function that does nothing.
 
-ghost use Rattle.cmm_image.specs.Laws.{DifferencesAreLive, EachMeansOneThing, FirstDifferencesAreOne, FirstKeepsSecond, ImagesAreOne, NoImageHasAFault, OnePlaceOrDifference, PlacesStandThere, RowsAreBounded, SecondHasOnePlace, SecondKeepsFirst, SecondTablesAreRead, SitesKeepFrames};
+ghost use Rattle.cmm_image.specs.Laws.{DifferencesAreLive, EachMeansOneThing, FirstDifferencesAreOne, FirstKeepsSecond, ImagesAreOne, NoBytesAreBoth, NoImageHasAFault, OnePlaceOrDifference, OneSpellingAVersion, PlacesStandThere, RowsAreBounded, SecondHasOnePlace, SecondIsShort, SecondKeepsFirst, SecondTablesAreRead, SitesKeepFrames};
 
 /// Bytes are one image, or they have a first fault, and never both.
 pub fn bytes_mean_one_thing()
@@ -35,6 +35,17 @@ pub fn second_tables_keep_the_first()
 pub fn one_place_makes_second_tables()
     ensures kept { FirstKeepsSecond }
     ensures only { SecondHasOnePlace }
+{}
+
+/// Version 2 spells the tables in hardly more bytes than version 1.
+pub fn second_tables_are_short()
+    ensures { SecondIsShort }
+{}
+
+/// An image has one spelling a version, and no bytes are of both.
+pub fn versions_are_apart()
+    ensures one { OneSpellingAVersion }
+    ensures never_both { NoBytesAreBoth }
 {}
 
 /// Where not each variable has one place, there is one first site and variable with another place than before, and that place stands at

@@ -10,8 +10,9 @@
 //! - `bounds`: what the numbers of records are measured by. `widths`: widths as they are read.
 //! - `header`, `procedure`, `procedure_parts`, `site`, `site_parts`, `symbols`: the records as they are read. `second_reading`,
 //!   `procedure_record`, `live_site`, `live`: those of version 2.
-//! - `row_bytes`: the records as they are written. `second_bytes`: those of version 2. `differing`: which variable has another place than
-//!   before, so that version 2 has no bytes for it.
+//! - `row_bytes`: the records as they are written. `second_bytes`: those of version 2.
+//! - `migrating`: `migrate`, from bytes of version 1 to those of version 2. `differing`: which variable has another place than before, so that
+//!   version 2 has no bytes for it; `offset`: where that place stands.
 //! - `laws`: what bytes are, an image or a first fault.
 //!
 //! The format is one table, `specs/ImageFormat`, a line a field, over the kinds of field of `cmm_format` and `specs/Places`; `specs/Images`
@@ -26,6 +27,8 @@ mod image;
 pub mod laws;
 mod live;
 mod live_site;
+mod migrating;
+mod offset;
 mod parts;
 mod procedure;
 mod procedure_parts;
@@ -43,7 +46,9 @@ mod widths;
 mod writing;
 
 pub use fault::ImageFault;
+pub use header::SECOND_VERSION;
 pub use image::Image;
+pub use migrating::migrate;
 pub use parts::ImageParts;
 pub use reading::{IMAGE_LIMIT, read_image};
 pub use rows::{

@@ -2,7 +2,7 @@
 
 ghost use Rattle.std.specs.Prelude.{◌≡◌, ℕ, IfOk, IfErr};
 ghost use Rattle.cmm_image.specs.ImageFormat.{first_tables as tables_first};
-ghost use Rattle.cmm_image.specs.WholeImage.{image};
+ghost use Rattle.cmm_image.specs.WholeImage.{image, tables as tables_of};
 ghost use Rattle.cmm_image.specs.Images.{SpellsImage, IsFirstFault, ImageFaultAt, IsImageRead, IsRefusal, image_in};
 ghost use Rattle.cmm_format.specs.Reading.{Gives, Reads};
 ghost use Rattle.cmm_image.specs.inside.Wholes.{fault_of};
@@ -11,10 +11,11 @@ ghost use Rattle.cmm_rules.specs.declared.rule.Rule.{Rule};
 
 use crate::bounds::{Bounds, Procedures};
 use crate::fault::ImageFault;
-use crate::header::read_header;
+use crate::header::{Header, SECOND_VERSION, read_header};
 use crate::image::Image;
 use crate::parts::ImageParts;
 use crate::rows::{ProcRow, SiteRow};
+use crate::second_reading::{Totals, second_tables};
 use cmm_format::{Reader, Unread, broken, read_rows};
 use cmm_items::Items;
 use cmm_rules::Rule;
@@ -84,12 +85,7 @@ fn front_parts(reader: &mut Reader<'_>) -> Result<ImageParts, Unread>
         variables: 0,
         continuations: 0,
     };
-    let (procs, sites) = first_tables(
-        reader,
-        bounds,
-        header.procedures as usize,
-        header.sites as usize,
-    )?;
+    let (procs, sites) = tables(reader, bounds, &header)?;
     let labels = read_rows(reader, &bounds, header.labels as usize)?;
     let globals = read_rows(reader, &bounds, header.globals as usize)?;
     Ok(ImageParts {
@@ -104,6 +100,31 @@ fn front_parts(reader: &mut Reader<'_>) -> Result<ImageParts, Unread>
         labels,
         globals,
     })
+}
+
+/// The tables of procedures and of sites, in the version that the header names.
+fn tables(
+    reader: &mut Reader<'_>,
+    bounds: Bounds,
+    header: &Header,
+) -> Result<(Items<ProcRow>, Items<SiteRow>), Unread>
+    requires { bounds.code_length ≡ header.now.code_length }
+    ensures { Reads result ((tables_of header.now).at reader.old.rest.now) reader.new.rest.now }
+{
+    if header.version == SECOND_VERSION {
+        let totals = Totals {
+            bounds,
+            procedures: header.procedures,
+            sites: header.sites,
+        };
+        return second_tables(reader, &totals);
+    }
+    first_tables(
+        reader,
+        bounds,
+        header.procedures as usize,
+        header.sites as usize,
+    )
 }
 
 /// The tables of version 1: so many procedures, and then so many sites.

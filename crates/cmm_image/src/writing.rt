@@ -1,14 +1,16 @@
 //! `write_image`: the bytes of an image, and `write_header`: those of its header.
 
 ghost use Rattle.std.specs.Prelude.{◌≡◌, ◌++◌, OnOk, IfOk};
-ghost use Rattle.cmm_image.specs.ImageFormat.{counts, header};
+ghost use Rattle.cmm_image.specs.ImageFormat.{counts, first_tables, header};
 ghost use Rattle.cmm_image.specs.WholeImage.{header_bytes, image, image_header};
 ghost use Rattle.cmm_image.specs.Images.{SpellsImage};
 ghost use Rattle.cmm_image.specs.inside.Spellings.{counts_of, image_body, image_records, image_symbols, image_tables};
 
-use crate::header::MAGIC;
+use crate::header::{MAGIC, SECOND_VERSION};
 use crate::image::Image;
 use crate::parts::ImageParts;
+use crate::rows::{ProcRow, SiteRow};
+use crate::second_bytes::put_second_tables;
 use cmm_format::{put_count32, put_u32, put_u64, write_rows};
 use std::alloc::{AllocError, Global};
 
@@ -30,7 +32,8 @@ pub fn write_header(alloc: Global, image: &Image) -> Result<Vec<u8>, AllocError>
     Ok(out)
 }
 
-fn put_image(out: &mut Vec<u8>, i: &ImageParts) -> Result<(), AllocError>
+/// The bytes of an image in its version.
+pub(crate) fn put_image(out: &mut Vec<u8>, i: &ImageParts) -> Result<(), AllocError>
     ensures { OnOk result (out.new.items ≡ out.old.items ++ image.spelled i.now) }
 {
     put_header(out, i)?;
@@ -54,12 +57,26 @@ fn put_records(out: &mut Vec<u8>, i: &ImageParts) -> Result<(), AllocError>
     put_symbols(out, i)
 }
 
-/// The records of procedures and of sites.
+/// The records of procedures and of sites, as the image's version has them.
 fn put_tables(out: &mut Vec<u8>, i: &ImageParts) -> Result<(), AllocError>
     ensures { OnOk result (out.new.items ≡ out.old.items ++ image_tables i.now) }
 {
-    write_rows(out, i.procs.as_slice())?;
-    write_rows(out, i.sites.as_slice())
+    if i.version == SECOND_VERSION {
+        return put_second_tables(out, i.procs.as_slice(), i.sites.as_slice());
+    }
+    put_first_tables(out, i.procs.as_slice(), i.sites.as_slice())
+}
+
+/// The records of procedures and then those of sites: the tables of version 1.
+fn put_first_tables(
+    out: &mut Vec<u8>,
+    procedures: &[ProcRow],
+    sites: &[SiteRow],
+) -> Result<(), AllocError>
+    ensures { OnOk result (out.new.items ≡ out.old.items ++ (first_tables 0 0 0).spelled (procedures.now, sites.now)) }
+{
+    write_rows(out, procedures)?;
+    write_rows(out, sites)
 }
 
 /// The records of labels and of global registers.
@@ -70,7 +87,8 @@ fn put_symbols(out: &mut Vec<u8>, i: &ImageParts) -> Result<(), AllocError>
     write_rows(out, i.globals.as_slice())
 }
 
-fn put_header(out: &mut Vec<u8>, i: &ImageParts) -> Result<(), AllocError>
+/// The header, whose counts are those of the tables.
+pub(crate) fn put_header(out: &mut Vec<u8>, i: &ImageParts) -> Result<(), AllocError>
     ensures { OnOk result (out.new.items ≡ out.old.items ++ header.spelled (image_header i.now)) }
 {
     put_u32(out, MAGIC)?;

@@ -27,7 +27,8 @@ use Rattle.cmm_format.specs.Formats.{AreBytes, AreRows}
 use Rattle.cmm_image.specs.ImageFormat.{global, header, is_code_length, label, procedure, site}
 use Rattle.cmm_image.specs.WholeImage.{image, image_header}
 use Rattle.cmm_image.specs.Images.{IsImage}
-use Rattle.cmm_image.proofs.Shared.{header_long}
+use Rattle.cmm_image.specs.SecondFormat.{second_tables}
+use Rattle.cmm_image.proofs.Shared.{first_keeps_second, header_long, second_is_short}
 use Rattle.cmm_allocate.specs.declared.procedure.ProcedurePlaces.{ProcedurePlaces}
 use Rattle.cmm_unit_code.specs.declared.text.Text.{Text}
 use Rattle.cmm_link.specs.Labels.{AreLabelsOf, exports, names_ascend, row_named}
@@ -46,11 +47,12 @@ use Rattle.cmm_link.proofs.ProcedureRows.{address_small, name_short}
 use Rattle.cmm_link.proofs.ProcedureTable.{rows_counted, table_holds}
 use Rattle.cmm_link.proofs.FirstLabels.{found_among}
 use Rattle.cmm_link.proofs.Listed.{all_from_get}
+use Rattle.cmm_link.proofs.OnePlaces.{sites_have_one_place}
 use Rattle.cmm_link.proofs.SiteSizes.{row_cost, rows_cost, rows_few}
 use Rattle.cmm_link.proofs.SiteTable.{IsRow, rows_are}
 use Rattle.cmm_link.proofs.SiteTokens.{site_measure}
 use Rattle.cmm_link.proofs.SitesHold.{row_holds, sites_hold, sites_long}
-use Rattle.cmm_link.proofs.Sizes.{globals_long, labels_long, table_long}
+use Rattle.cmm_link.proofs.Sizes.{added_long, globals_long, labels_long, table_long}
 
 -- what is required of what they are made from
 pub record AreGiven (p : Program) (places : List ProcedurePlaces) (d : DataImage) (t : Text) : Type 0 where
@@ -65,7 +67,7 @@ pub record AreGiven (p : Program) (places : List ProcedurePlaces) (d : DataImage
 -- the parts, with what they are made from put in
 abbrev parts_of : Program → List ProcedurePlaces → Text → List ℕ → List SiteRow → List LabelRow → ImageParts
 parts_of p places t initial sites labels = record {
-  version = 1;
+  version = 2;
   code = t.code;
   initial = initial;
   start = t.start;
@@ -164,14 +166,17 @@ module _
     abbrev IsValid : SiteRow → Type 0
     IsValid row = (site (length t.code) procs None).Holds row
 
+    program_rows : All IsProgramRow sites
+    program_rows =
+        let value = value_at t.procedures d.addresses in
+        All-permutation IsProgramRow (site_rows value p.procs places t.landings t.sites) sites are_sites.same (rows_are value p.procs places t.landings t.sites)
+
     sites_valid : All IsValid sites
     sites_valid =
         let value = value_at t.procedures d.addresses in
-        let are : All IsProgramRow sites =
-        All-permutation IsProgramRow (site_rows value p.procs places t.landings t.sites) sites are_sites.same (rows_are value p.procs places t.landings t.sites) in
         all_from_get IsValid sites (λ i row is.
-        row_holds p places t value room given.range.procedure_count given.range.procedures given.frames given.text given.spans row (all_get IsProgramRow sites i row are is)
-        (all_get HasSmallSpans sites i row small_spans is))
+        row_holds p places t value room given.range.procedure_count given.range.procedures given.frames given.text given.spans row
+        (all_get IsProgramRow sites i row program_rows is) (all_get HasSmallSpans sites i row small_spans is))
 
     sites_keep : AreRows (λ previous. (site (length t.code) procs previous).Holds) None sites
     sites_keep = sites_hold (length t.code) procs None 0 sites (λ address less. refl) are_sites.ascending sites_valid
@@ -240,11 +245,14 @@ module _
           ),
         )
 
+    -- each variable has one place in its procedure, so that version 2 spells the tables
+    tables_hold : (second_tables (length t.code) (length procs) (length sites)).Holds (procs, sites)
+    tables_hold =
+        first_keeps_second (length t.code) (length procs) (length sites) (procs, sites) (omega (arith, few_sites)) ((refl, procedures_hold), (refl, sites_keep))
+        (sites_have_one_place (value_at t.procedures d.addresses) p.procs places t.landings t.sites sites program_rows)
+
     fields_hold : image.Holds parts
-    fields_hold = (
-      header_holds,
-      ((refl, code_bytes), ((refl, data_bytes), (((refl, procedures_hold), (refl, sites_keep)), ((refl, labels_keep), (refl, globals_keep))))),
-    )
+    fields_hold = (header_holds, ((refl, code_bytes), ((refl, data_bytes), (tables_hold, ((refl, labels_keep), (refl, globals_keep))))))
 
     short : length (image.spelled parts) ≤ IMAGE_LIMIT
     short =
@@ -253,20 +261,23 @@ module _
         let procs_part = flat_map (procedure (length t.code) None).spelled procs in
         let symbols = labels_part ++ globals_part in
         let sites_part = flat_map (site (length t.code) procs None).spelled sites in
-        let from_procs = (procs_part ++ sites_part) ++ symbols in
+        let tables_part = (second_tables (length t.code) (length procs) (length sites)).spelled (procs, sites) in
+        let from_tables = tables_part ++ symbols in
         let code = given.room.code in
         let tokens = given.room.tokens in
         let count = given.range.procedure_count in
         omega (
           arith,
-          length-append (header.spelled (image_header parts)) (t.code ++ (initial ++ from_procs)),
+          length-append (header.spelled (image_header parts)) (t.code ++ (initial ++ from_tables)),
           header_long parts,
-          length-append t.code (initial ++ from_procs),
+          length-append t.code (initial ++ from_tables),
           code,
-          length-append initial from_procs,
+          length-append initial from_tables,
           size,
           data_room,
-          length-append (procs_part ++ sites_part) symbols,
+          length-append tables_part symbols,
+          second_is_short (length t.code) (length procs) (length sites) (procs, sites) tables_hold,
+          added_long p p.procs places t.procedures t.landings given.range.procedures,
           length-append procs_part sites_part,
           procedures_long,
           sites_long (length t.code) procs sites sites_valid,

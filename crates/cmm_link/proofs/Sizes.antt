@@ -168,6 +168,23 @@ module _ (p : Program) (code_length : ℕ) where
         sum_by-cons (λ (q : Proc). sum_by site_measure q.sites) q procs,
       )
 
+  -- what version 2 adds to it is bounded by its tokens too
+  pub added_long : (procs : List Proc) (places : List ProcedurePlaces) (codes : List ℕ) (landings : List (List ℕ)) → All (IsProcInRange p) procs →
+      2 * sum_by (λ r. 5 + 5 * length r.variables) (procedure_rows procs places codes landings) ≤ 5 * sum_by (λ q. q.tokens) procs
+  added_long [] places codes landings range = omega arith
+  added_long (q ∷ procs) [] codes landings range = omega arith
+  added_long (q ∷ procs) (k ∷ places) [] landings range = omega arith
+  added_long (q ∷ procs) (k ∷ places) (code ∷ codes) [] range = omega arith
+  added_long (q ∷ procs) (k ∷ places) (code ∷ codes) (ls ∷ landings) range =
+      omega (
+        arith,
+        tokens_of_parts p q (All-head (IsProcInRange p) q procs range),
+        length-map q.vars variable_row,
+        sum_by-cons (λ (r : ProcRow). 5 + 5 * length r.variables) (procedure_row q k.frame code ls) (procedure_rows procs places codes landings),
+        sum_by-cons (λ (q : Proc). q.tokens) q procs,
+        added_long procs places codes landings (All-tail (IsProcInRange p) q procs range),
+      )
+
 -- ---- labels, global registers, and the header
 
 label_long : (data_length : ℕ) (previous : Option LabelRow) (l : LabelRow) → (label data_length previous).Holds l → length ((label data_length None).spelled l) ≤ 264

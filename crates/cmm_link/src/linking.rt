@@ -21,7 +21,7 @@ use crate::procedures::procedure_rows;
 use crate::sites::site_rows;
 use cmm_allocate::ProcedurePlaces;
 use cmm_data::DataImage;
-use cmm_image::{Image, ImageParts};
+use cmm_image::{Image, ImageParts, SECOND_VERSION};
 use cmm_program::Program;
 use cmm_unit_code::{ProgramCode, Text};
 use std::alloc::{AllocError, Global};
@@ -60,7 +60,7 @@ fn parts(
     let initial = filled_data(laid, text.procedures.as_slice());
     know_bytes(text.code.as_slice());
     Ok(ImageParts {
-        version: 1,
+        version: SECOND_VERSION,
         code: text.code,
         initial,
         start: text.start,

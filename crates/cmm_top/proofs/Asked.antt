@@ -8,7 +8,7 @@ use Rattle.cmm_command.specs.Laws.{CommandsAreInRange, IsName}
 use Rattle.cmm_command.specs.Meaning.{Meaning, meaning_of}
 use Rattle.cmm_command.specs.Meaning as meaning
 use Rattle.cmm_outside.specs.declared.storage.TheConstants.{NAME_LIMIT}
-use Rattle.cmm_top.specs.Words.{Task, execute, run, build, walk, generate, convert, inspect, task_in, task_of}
+use Rattle.cmm_top.specs.Words.{Task, execute, run, build, walk, generate, convert, inspect, migrate, task_in, task_of}
 use Rattle.cmm_top.specs.declared.task.Task.{Task as TaskAsked}
 use Rattle.cmm_top.specs.inside.Tasks.{CanBeDone, IsAsked, plain_task}
 
@@ -42,6 +42,9 @@ can_be_done law words (meaning.generate number) t is asks = let same : generate 
 can_be_done law words (meaning.elf image file) t is asks =
     let range = law words (meaning.elf image file) is in
     let same : convert image file ≡ t = cc in subst CanBeDone same range
+can_be_done law words (meaning.migrate image file) t is asks =
+    let range = law words (meaning.migrate image file) is in
+    let same : migrate image file ≡ t = cc in subst CanBeDone same range
 can_be_done law words (meaning.segments file) t is asks =
     let range = law words (meaning.segments file) is in
     let same : inspect file ≡ t = cc in subst CanBeDone same range

@@ -4,12 +4,13 @@ use Rattle.std.specs.Prelude.{◌⊎◌}
 use Rattle.std.specs.Result.{IsErrAnd}
 use Rattle.std.proofs.lemmas.List.Elements.{Contains-append_left, Contains-append_right}
 use Rattle.cmm_elf.specs.declared.reading.TheConstants.{ELF_LIMIT}
-use Rattle.cmm_image.specs.Images.{SpellsImage}
+use Rattle.cmm_image.specs.Images.{IsFirstFault as IsFirstImageFault, SpellsImage}
 use Rattle.cmm_image.specs.declared.parts.ImageParts.{ImageParts}
 use Rattle.cmm_image.specs.declared.reading.TheConstants.{IMAGE_LIMIT}
 use Rattle.cmm_outside.specs.Faults.{Rose}
 use Rattle.cmm_outside.specs.Storage.{Contents, FailedCall}
 use Rattle.cmm_outside.specs.declared.storage.CallKind.TheVariants.{Read}
+use Rattle.cmm_rules.specs.declared.rule.Rule.{Rule}
 use Rattle.cmm_rules.specs.declared.rule.Rule.TheVariants.{ScriptTooLong}
 use Rattle.cmm_script.specs.Faults.{IsFirstFault}
 use Rattle.cmm_script.specs.declared.reader.TheConstants.{SCRIPT_LIMIT}
@@ -26,12 +27,12 @@ use Rattle.cmm_top.specs.declared.sources.Sources.{Sources}
 use Rattle.cmm_top.specs.Call.{Outside}
 use Rattle.cmm_top.specs.Files.{FailsToRead, HasBytes, HasUnits}
 use Rattle.cmm_top.specs.Inspecting.{IsNoElfFile}
-use Rattle.cmm_top.specs.Running.{IsRefused}
+use Rattle.cmm_top.specs.Running.{IsRefused, IsRefusedFor}
 use Rattle.cmm_top.specs.Script.{HasScript, HoldsNoScript, named_file}
 use Rattle.cmm_top.specs.Units.{HaveFault, IsRefused as AreRefused}
 use Rattle.cmm_top.specs.Walking.{HasBadSnapshot}
 use Rattle.cmm_top.specs.Work.{RanOutOfMemory}
-use Rattle.cmm_top.specs.inside.Ending.{IsNotElf, IsNotImage, IsNotSnapshot, IsRefusedScript, IsUnread, LackImage, work_of}
+use Rattle.cmm_top.specs.inside.Ending.{IsFaultIn, IsNotElf, IsNotImage, IsNotSnapshot, IsRefusedScript, IsUnread, LackImage, work_of}
 use Rattle.cmm_top.specs.inside.Reading.{AreRead, AreUnits, IsClientRead, IsFileOf, IsScriptRead, ReadsOrFails}
 use Rattle.cmm_top.proofs.FilesRead.{bytes_so}
 use Rattle.cmm_top.proofs.Refusing.{fault_in, is_refused, ran_out}
@@ -82,33 +83,39 @@ no_image names before after sources end same (units, hold, are) lack =
 
 -- ---- an image
 
-not_image : (name bytes : List ℕ) (before after : Outside) (end : Ending) → after ≡ before → IfSome before.files (λ files. files name ≡ Some bytes) → IsNotImage bytes end →
-    IsRefused name (work_of end None before after) ⊎ RanOutOfMemory (work_of end None before after)
-not_image name bytes before after (ending.BadImage rule offset) same there first = inl record {
+not_made : (Fault : List ℕ → Rule → ℕ → Type 0) (name bytes : List ℕ) (before after : Outside) (end : Ending) → after ≡ before → IfSome before.files (λ files. files name ≡ Some bytes) → IsFaultIn Fault bytes end →
+    IsRefusedFor Fault name (work_of end None before after) ⊎ RanOutOfMemory (work_of end None before after)
+not_made Fault name bytes before after (ending.BadImage rule offset) same there first = inl record {
   rule = rule;
   offset = offset;
   first = (bytes, there, first);
   nothing = record { same = same; no_image = refl };
   ends = record { line = refl; status = refl };
 }
-not_image name bytes before after ending.OutOfMemory same there first = inr (ran_out before after same)
-not_image name bytes before after ending.Usage same there first = absurd first
-not_image name bytes before after (ending.Refused n f) same there first = absurd first
-not_image name bytes before after (ending.BadScript rule line) same there first = absurd first
-not_image name bytes before after (ending.FileFault n) same there first = absurd first
-not_image name bytes before after (ending.BadSnapshot rule offset) same there first = absurd first
-not_image name bytes before after ending.OutputFault same there first = absurd first
-not_image name bytes before after ending.Written same there first = absurd first
-not_image name bytes before after ending.Walked same there first = absurd first
-not_image name bytes before after (ending.Ran outcome) same there first = absurd first
-not_image name bytes before after (ending.BadElf rule offset) same there first = absurd first
-not_image name bytes before after (ending.Inspected code initial start) same there first = absurd first
+not_made Fault name bytes before after ending.OutOfMemory same there first = inr (ran_out before after same)
+not_made Fault name bytes before after ending.Usage same there first = absurd first
+not_made Fault name bytes before after (ending.Refused n f) same there first = absurd first
+not_made Fault name bytes before after (ending.BadScript rule line) same there first = absurd first
+not_made Fault name bytes before after (ending.FileFault n) same there first = absurd first
+not_made Fault name bytes before after (ending.BadSnapshot rule offset) same there first = absurd first
+not_made Fault name bytes before after ending.OutputFault same there first = absurd first
+not_made Fault name bytes before after ending.Written same there first = absurd first
+not_made Fault name bytes before after ending.Walked same there first = absurd first
+not_made Fault name bytes before after (ending.Ran outcome) same there first = absurd first
+not_made Fault name bytes before after (ending.BadElf rule offset) same there first = absurd first
+not_made Fault name bytes before after (ending.Inspected code initial start) same there first = absurd first
 
--- the file that was read holds no image
+-- the file that was read has a fault
+pub holds_fault : (Fault : List ℕ → Rule → ℕ → Type 0) (name : List ℕ) (before after : Outside) (read : FileBytes) (end : Ending) → after ≡ before →
+    HasBytes before.files name (λ bytes. IsFileOf IMAGE_LIMIT bytes read) → ((bytes : List ℕ) → IsFileOf IMAGE_LIMIT bytes read → IsFaultIn Fault bytes end) →
+    IsRefusedFor Fault name (work_of end None before after) ⊎ RanOutOfMemory (work_of end None before after)
+holds_fault Fault name before after read end same (bytes, there, is) lacks = not_made Fault name bytes before after end same there (lacks bytes is)
+
+-- and so it holds no image
 pub holds_no_image : (name : List ℕ) (before after : Outside) (read : FileBytes) (end : Ending) → after ≡ before → HasBytes before.files name (λ bytes. IsFileOf IMAGE_LIMIT bytes read) →
     ((bytes : List ℕ) → IsFileOf IMAGE_LIMIT bytes read → IsNotImage bytes end) →
     IsRefused name (work_of end None before after) ⊎ RanOutOfMemory (work_of end None before after)
-holds_no_image name before after read end same (bytes, there, is) lacks = not_image name bytes before after end same there (lacks bytes is)
+holds_no_image name before after read end same has lacks = holds_fault IsFirstImageFault name before after read end same has lacks
 
 -- ---- a snapshot
 

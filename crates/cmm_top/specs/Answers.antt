@@ -5,7 +5,7 @@ use Rattle.cmm_top.specs.declared.status.Status.{Status}
 use Rattle.cmm_top.specs.declared.status.Status.TheVariants.{Usage}
 use Rattle.cmm_top.specs.Building.{Builds}
 use Rattle.cmm_top.specs.Call.{Call, Closes, Outside}
-use Rattle.cmm_top.specs.Converting.{Converts}
+use Rattle.cmm_top.specs.Converting.{Converts, Migrates}
 use Rattle.cmm_top.specs.Executing.{Executes}
 use Rattle.cmm_top.specs.Generating.{Generates}
 use Rattle.cmm_top.specs.Inspecting.{Inspects}
@@ -13,7 +13,7 @@ use Rattle.cmm_top.specs.Lines.{usage_line}
 use Rattle.cmm_top.specs.Running.{RunsFile}
 use Rattle.cmm_top.specs.Status.{number_of}
 use Rattle.cmm_top.specs.Walking.{Walks}
-use Rattle.cmm_top.specs.Words.{Task, execute, run, build, walk, generate, convert, inspect, task_of}
+use Rattle.cmm_top.specs.Words.{Task, execute, run, build, walk, generate, convert, migrate, inspect, task_of}
 use Rattle.cmm_top.specs.Work.{DoesNothing, Ends, RanOutOfMemory, Work}
 
 abbrev pub Does : Task → Work → Type 0
@@ -23,6 +23,7 @@ Does (walk name snapshot) w = Walks name snapshot w
 Does (build names name) w = Builds names name w
 Does (generate number) w = Generates number w
 Does (convert name file) w = Converts name file w
+Does (migrate name file) w = Migrates name file w
 Does (inspect name) w = Inspects name w
 
 -- the words are none that the program takes, and nothing was done

@@ -6,7 +6,7 @@ use Rattle.cmm_lexer.specs.declared.tokens.TheConstants.{UNIT_LIMIT}
 use Rattle.cmm_outside.specs.Reads.{WantedFile}
 use Rattle.cmm_script.specs.declared.reader.TheConstants.{SCRIPT_LIMIT}
 use Rattle.cmm_snapshot.specs.declared.reading.TheConstants.{SNAPSHOT_LIMIT}
-use Rattle.cmm_top.specs.Words.{Task, execute, run, build, walk, generate, convert, inspect, task_of}
+use Rattle.cmm_top.specs.Words.{Task, execute, run, build, walk, generate, convert, migrate, inspect, task_of}
 
 abbrev pub units_in : List (List ℕ) → List WantedFile
 units_in names = map (λ name. record { name = name; limit = UNIT_LIMIT }) names
@@ -32,6 +32,7 @@ read_for (walk name snapshot) = image_in name ∷ snapshot_in snapshot ∷ []
 read_for (build names name) = units_in names
 read_for (generate number) = []
 read_for (convert name file) = image_in name ∷ []
+read_for (migrate name file) = image_in name ∷ []
 read_for (inspect name) = elf_file_in name ∷ []
 
 -- words that ask for no task have none read

@@ -10,7 +10,7 @@ abbrev pub texts : List (String Global) → List (List ℕ)
 texts words = map string_bytes words
 
 -- Units are in files of these names, one at least, an image is in the file of one, and the script of a client, if there is one, in the file of one. A snapshot is
--- saved to the file of one, if words say so, or is in it. An ELF file is the file of one, or is written to it.
+-- saved to the file of one, if words say so, or is in it. An ELF file is the file of one, or is written to it, and so is an image in version 2.
 pub data Task : Type 0 where
   execute : List (List ℕ) → Option (List ℕ) → RunLimits → Task
   run : List ℕ → Option (List ℕ) → RunLimits → Option (List ℕ) → Task
@@ -18,6 +18,7 @@ pub data Task : Type 0 where
   walk : List ℕ → List ℕ → Task
   generate : ℕ → Task
   convert : List ℕ → List ℕ → Task
+  migrate : List ℕ → List ℕ → Task
   inspect : List ℕ → Task
 
 abbrev pub task_in : Meaning → Option Task
@@ -29,6 +30,7 @@ task_in (meaning.build (name ∷ names) image) = Some (build (name ∷ names) im
 task_in (meaning.walk image snapshot) = Some (walk image snapshot)
 task_in (meaning.generate number) = Some (generate number)
 task_in (meaning.elf image file) = Some (convert image file)
+task_in (meaning.migrate image file) = Some (migrate image file)
 task_in (meaning.segments file) = Some (inspect file)
 
 abbrev pub task_of : List (List ℕ) → Option Task

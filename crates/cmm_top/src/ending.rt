@@ -12,7 +12,7 @@ pub(crate) enum Ending<'a> {
     Usage,
     /// Units are refused for a rule that the unit in a file of this name breaks.
     Refused(&'a str, Fault),
-    /// The bytes of a file are no image: this rule is broken at the field that begins at this offset.
+    /// The bytes of a file are no image, or one that is not migrated: this rule is broken at the field that begins at this offset.
     BadImage { rule: Rule, offset: u64 },
     /// The bytes of a file are no script: this rule is broken in this line.
     BadScript { rule: Rule, line: u32 },
@@ -26,7 +26,7 @@ pub(crate) enum Ending<'a> {
     OutputFault,
     /// Memory ran out.
     OutOfMemory,
-    /// An image was written to a file, or its ELF file.
+    /// An image was written to a file, its ELF file, or the image in version 2.
     Written,
     /// The walk of a stopped program was written.
     Walked,

@@ -7,7 +7,7 @@
 //!
 //! - `top`: `cmm_main`.
 //! - `task`: what words ask for.
-//! - `executing`, `running`, `building`, `walking`, `generating`: `exec`, `run`, `build`, `walk` and `gen`. `converting`, `inspecting`: `elf` and `segments`.
+//! - `executing`, `running`, `building`, `walking`, `generating`: `exec`, `run`, `build`, `walk` and `gen`. `converting`: `elf` and `migrate`. `inspecting`: `segments`.
 //! - `reading`: files that are read. `sources`: the bytes of units, `units`: their image. `client`: the script of a client.
 //! - `image`: an image that was read. `session`: an image that runs. `saving`: what is kept of a run that was stopped.
 //! - `ending`, `line`: what a call comes to, and the line that closes the log.

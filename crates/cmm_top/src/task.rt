@@ -43,6 +43,11 @@ pub(crate) enum Task<'a> {
         image: &'a str,
         file: &'a str,
     },
+    /// To write the image in a file, of version 1, to another in version 2.
+    Migrate {
+        image: &'a str,
+        file: &'a str,
+    },
     /// To tell the segments of an ELF file.
     Inspect {
         file: &'a str,
@@ -90,6 +95,7 @@ pub(crate) fn task_in<'a>(command: Command<'a>) -> Option<Task<'a>>
         Command::Generate { number } => Some(Task::Generate { number }),
         Command::Walk { image, snapshot } => Some(Task::Walk { image, snapshot }),
         Command::Elf { image, file } => Some(Task::Convert { image, file }),
+        Command::Migrate { image, file } => Some(Task::Migrate { image, file }),
         Command::Segments { file } => Some(Task::Inspect { file }),
     }
 }

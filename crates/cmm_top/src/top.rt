@@ -11,7 +11,7 @@ ghost use Rattle.cmm_top.specs.inside.Ending.{work_of};
 ghost use Rattle.cmm_top.specs.inside.Tasks.{CanBeDone, plain_task};
 
 use crate::building::build;
-use crate::converting::convert;
+use crate::converting::{Form, convert};
 use crate::ending::Ending;
 use crate::executing::exec;
 use crate::generating::generate;
@@ -72,7 +72,11 @@ fn done<'a, F: Files, I: Source, O: Sink, E: Sink>(
         }
         Task::Generate { number } => generate(alloc, *number, input, out, log),
         Task::Convert { image, file } => {
-            let ending = convert(alloc, *image, *file, files);
+            let ending = convert(alloc, Form::Elf, *image, *file, files);
+            (ending, None)
+        }
+        Task::Migrate { image, file } => {
+            let ending = convert(alloc, Form::SecondVersion, *image, *file, files);
             (ending, None)
         }
         Task::Inspect { file } => {
@@ -117,6 +121,7 @@ fn ended<'a, F: Files, I: Source, O: Sink, E: Sink>(
 /// - `exec UNIT ..` builds the units in files and runs their image in the same way.
 /// - `gen NUMBER` builds the unit of a number, tells the counts of its program and runs its image.
 /// - `elf IMAGE -o FILE` writes the ELF file of the image in a file.
+/// - `migrate IMAGE -o IMAGE` writes the image in a file, of version 1, in version 2.
 /// - `segments FILE` tells the segments of an ELF file.
 pub fn cmm_main<F: Files, I: Source, O: Sink, E: Sink>(
     alloc: Global,

@@ -3,7 +3,7 @@ use Rattle.std.proofs.Common.{◌≡◌, ℕ, List, [], ◌∷◌, Option, Some,
 use Rattle.cmm_command.specs.Laws.{CommandsAreInRange}
 use Rattle.cmm_command.specs.Meaning.{Meaning, meaning_of}
 use Rattle.cmm_command.specs.Meaning as meaning
-use Rattle.cmm_top.specs.Words.{Task, build, convert, execute, generate, inspect, run, task_in, walk}
+use Rattle.cmm_top.specs.Words.{Task, build, convert, execute, generate, inspect, migrate, run, task_in, walk}
 use Rattle.cmm_top_laws.specs.Calls.{HasStackSize}
 use Rattle.cmm_top_laws.specs.Laws.{WordsGiveStackSizes}
 
@@ -21,6 +21,7 @@ module _ (law : CommandsAreInRange) (words : List (List ℕ)) (task : Task) wher
   meant_has (meaning.walk image snapshot) is asks = let same : walk image snapshot ≡ task = cc asks in subst HasStackSize same tt
   meant_has (meaning.generate number) is asks = let same : generate number ≡ task = cc asks in subst HasStackSize same tt
   meant_has (meaning.elf image file) is asks = let same : convert image file ≡ task = cc asks in subst HasStackSize same tt
+  meant_has (meaning.migrate image file) is asks = let same : migrate image file ≡ task = cc asks in subst HasStackSize same tt
   meant_has (meaning.segments file) is asks = let same : inspect file ≡ task = cc asks in subst HasStackSize same tt
 
   asked_has : (m : Option Meaning) → meaning_of words ≡ m → (elim m as (λ _. Option Task) [ Some meant ↦ task_in meant | None ↦ None ]) ≡ Some task → HasStackSize task

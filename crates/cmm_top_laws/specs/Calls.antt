@@ -25,7 +25,7 @@ use Rattle.cmm_top.specs.Lines.{counts_lines, outcome_line}
 use Rattle.cmm_top.specs.Saving.{Saves, is_stopped, saved_to}
 use Rattle.cmm_top.specs.Script.{HasScript}
 use Rattle.cmm_top.specs.Status.{status_of}
-use Rattle.cmm_top.specs.Words.{Task, build, convert, execute, generate, inspect, run, walk}
+use Rattle.cmm_top.specs.Words.{Task, build, convert, execute, generate, inspect, migrate, run, walk}
 use Rattle.cmm_top.specs.Work.{Ends, Work, no_script}
 use Rattle.cmm_top_laws.specs.Explained.{IsExplained}
 
@@ -42,6 +42,7 @@ HasStackSize (walk name snapshot) = Unit {0}
 HasStackSize (build names name) = Unit {0}
 HasStackSize (generate number) = Unit {0}
 HasStackSize (convert name file) = Unit {0}
+HasStackSize (migrate name file) = Unit {0}
 HasStackSize (inspect name) = Unit {0}
 
 -- The C-- machine of a program explains a run of it that came to this state, with the placement that an image shows, which is a valid one of the program, and a client's

@@ -1,10 +1,11 @@
 -- The bytes of parts of records, which are written by functions of their own.
-use Rattle.std.specs.Prelude.{ℕ, List, [], ◌++◌, flat_map, length, None}
+use Rattle.std.specs.Prelude.{ℕ, List, ◌++◌, flat_map, length, None}
 use Rattle.cmm_image.specs.declared.parts.ImageParts.{ImageParts}
 use Rattle.cmm_image.specs.declared.rows.ProcRow.{ProcRow}
 use Rattle.cmm_image.specs.declared.rows.SiteRow.{SiteRow}
 use Rattle.cmm_format.specs.Formats.{counted, number_bytes, optional_number, text_bytes}
-use Rattle.cmm_image.specs.ImageFormat.{Counts, saved_register, variable, stack_label, continuation, continuation_number, flags_number, no_return, unwind, width, site_lists, procedure, site, label, global, u8, u16}
+use Rattle.cmm_image.specs.WholeImage.{image_header, tables}
+use Rattle.cmm_image.specs.ImageFormat.{Counts, saved_register, variable, stack_label, continuation, continuation_number, flags_number, no_return, unwind, width, site_lists, label, global, u8, u16}
 
 -- the fields of a procedure before its lists
 abbrev pub procedure_head : ProcRow → List ℕ
@@ -36,9 +37,9 @@ site_row_lists s =
 abbrev pub counts_of : ImageParts → Counts
 counts_of i = (length i.procs, (length i.sites, (length i.labels, (length i.globals, (i.main, 0)))))
 
--- the records of procedures and of sites
+-- the records of procedures and of sites, as the image's version has them
 abbrev pub image_tables : ImageParts → List ℕ
-image_tables i = flat_map (procedure 0 None).spelled i.procs ++ flat_map (site 0 [] None).spelled i.sites
+image_tables i = (tables (image_header i)).spelled (i.procs, i.sites)
 
 -- the records of labels and of global registers
 abbrev pub image_symbols : ImageParts → List ℕ

@@ -16,7 +16,7 @@ use Rattle.cmm_link.specs.inside.Named.{HasSmallSpans, IsNamed, IsNamedGlobal, I
 use Rattle.cmm_link.specs.inside.Values.{value_at}
 
 pub record AreMade (p : Program) (places : List ProcedurePlaces) (d : DataImage) (t : Text) (i : ImageParts) : Type 0 where
-  pub version : i.version ≡ 1
+  pub version : i.version ≡ 2
   pub code : i.code ≡ t.code
   pub start : i.start ≡ t.start
   pub last : i.last ≡ t.last

@@ -9,6 +9,7 @@ use Rattle.cmm_image.specs.Images.{IsFirstFault as IsFirstImageFault}
 use Rattle.cmm_image.specs.declared.parts.ImageParts.{ImageParts}
 use Rattle.cmm_outside.specs.Faults.{Rose}
 use Rattle.cmm_outside.specs.Output.{Appends, AppendsFront}
+use Rattle.cmm_rules.specs.declared.rule.Rule.{Rule}
 use Rattle.cmm_rules.specs.declared.rule.Rule.TheVariants.{ScriptTooLong}
 use Rattle.cmm_script.specs.Faults.{IsFirstFault}
 use Rattle.cmm_snapshot.specs.Snapshots.{IsFirstFault as IsFirstSnapshotFault}
@@ -65,11 +66,15 @@ Refuses names (build_fault.At fault) (Refused name f) = (f ≡ fault) × (slice_
 Refuses names build_fault.Memory OutOfMemory = Unit {0}
 Refuses names _ _ = ⊥
 
+-- which fault bytes have that should be an image
+abbrev pub IsFaultIn : (List ℕ → Rule → ℕ → Type 0) → List ℕ → Ending → Type 0
+IsFaultIn Fault bytes (BadImage rule offset) = Fault bytes rule offset
+IsFaultIn Fault bytes OutOfMemory = Unit {0}
+IsFaultIn Fault bytes _ = ⊥
+
 -- why there is no image in bytes
 abbrev pub IsNotImage : List ℕ → Ending → Type 0
-IsNotImage bytes (BadImage rule offset) = IsFirstImageFault bytes rule offset
-IsNotImage bytes OutOfMemory = Unit {0}
-IsNotImage bytes _ = ⊥
+IsNotImage bytes ending = IsFaultIn IsFirstImageFault bytes ending
 
 -- why there is no snapshot of a run of an image in bytes
 abbrev pub IsNotSnapshot : ImageParts → List ℕ → Ending → Type 0

@@ -6,7 +6,7 @@ use Rattle.cmm_command.specs.Laws.{IsName}
 use Rattle.cmm_compile.specs.Agreement.{IsStackSize}
 use Rattle.cmm_top.specs.declared.task.Task.{Task as TaskAsked}
 use Rattle.cmm_top.specs.declared.task.Task.TheVariants as asked
-use Rattle.cmm_top.specs.Words.{Task, execute, run, build, walk, generate, convert, inspect}
+use Rattle.cmm_top.specs.Words.{Task, execute, run, build, walk, generate, convert, migrate, inspect}
 
 abbrev pub plain_task : TaskAsked → Task
 plain_task (asked.Execute units client limits) = execute (map (λ name. name.now) units) (option_map (λ name. name.now) client) limits
@@ -15,6 +15,7 @@ plain_task (asked.Walk image snapshot) = walk image.now snapshot.now
 plain_task (asked.Build units image) = build (map (λ name. name.now) units) image.now
 plain_task (asked.Generate number) = generate number
 plain_task (asked.Convert image file) = convert image.now file.now
+plain_task (asked.Migrate image file) = migrate image.now file.now
 plain_task (asked.Inspect file) = inspect file.now
 
 -- what is asked for is so
@@ -31,4 +32,5 @@ CanBeDone (walk name snapshot) = IsName name × IsName snapshot
 CanBeDone (build names name) = All IsName names × (0 < length names) × IsName name
 CanBeDone (generate number) = Unit {0}
 CanBeDone (convert name file) = IsName name × IsName file
+CanBeDone (migrate name file) = IsName name × IsName file
 CanBeDone (inspect name) = IsName name

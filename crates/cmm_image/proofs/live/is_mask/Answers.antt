@@ -1,4 +1,4 @@
-use Rattle.std.proofs.Common.{◌≡◌, ◌%◌, ◌||◌, ◌==◌, Bool, true, false, IsTrue, nat_eq, arith}
+use Rattle.std.proofs.Common.{arith}
 use Rattle.std.proofs.lemmas.Bool.Decides.{nat_tests}
 use Rattle.cmm_image.specs.declared.rows.VariablePlace.TheVariants.{Dead}
 use Rattle.cmm_image.proofs.LiveLaws.{mask_next}

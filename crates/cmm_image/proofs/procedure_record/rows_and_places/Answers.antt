@@ -1,8 +1,7 @@
-use Rattle.std.proofs.Common.{◌≡◌, List, ◌∙◌, map, ap, sym, refl}
+use Rattle.std.proofs.Common.{◌≡◌, ◌∙◌, map, ap, sym, refl}
 use Rattle.std.proofs.lemmas.Iterator.Adapters.{YieldsList-from_vec}
 use Rattle.std.proofs.lemmas.Iterator.Consumers.{YieldsList-end}
 use Rattle.std.proofs.lemmas.List.{map-id}
-use Rattle.cmm_image.specs.declared.procedure_record.PlacedVariable.{PlacedVariable}
 use Rattle.cmm_image.proofs.procedure_record.rows_and_places.Goals as goal
 
 pub returns : goal.returns

@@ -1,4 +1,4 @@
-use Rattle.std.proofs.Common.{◌≡◌, Option, Ok, Err, List, ℕ, ◌∙◌, ap, subst, refl, sym}
+use Rattle.std.proofs.Common.{◌≡◌, Option, Ok, Err, List, ℕ, ◌∙◌, ap, subst, sym}
 use Rattle.std.proofs.lemmas.Result.{err_from_is_err_and}
 use Rattle.cmm_format.specs.Formats.{Front}
 use Rattle.cmm_format.specs.Reading.{Reads}
