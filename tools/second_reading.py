@@ -1,13 +1,15 @@
-"""What must come of `run` and `walk`, by readings of docs/FORMATS.md, docs/ABI.md and docs/RUNTIME.md and of the ISA that share nothing with the program's code.
+"""What must come of `run`, `walk` and `migrate`, by readings of docs/FORMATS.md, docs/ABI.md and docs/RUNTIME.md and of the ISA that share nothing with the program's code.
 
     tools/second_reading.py run IMAGE [SCRIPT] < INPUT      tells it of files
     tools/second_reading.py walk IMAGE SNAPSHOT
+    tools/second_reading.py migrate IMAGE > IMAGE           what must be written comes to the output
 """
 
 import dataclasses
 import sys
 
 from image_reading import Broken, read_image, read_snapshot, snapshot_bytes
+from migrating import migrated
 from plain_client import BadScript, Client, read_script, write_walk
 from plain_machine import Break, Machine
 
@@ -17,7 +19,8 @@ USUAL_STEPS, USUAL_STACK = 1_000_000_000, 1_048_576
 
 @dataclasses.dataclass
 class Answer:
-    """What must come of a call: the exit status, output and log, and the bytes of the snapshot of a run that the client stopped."""
+    """What must come of a call: the exit status, output and log, and the bytes of the file that is written: the snapshot of a run that the client stopped, or the image
+    of version 2."""
 
     status: int
     output: bytes
@@ -63,13 +66,25 @@ def walk_answer(content, snapshot):
     return Answer(0, bytes(lines), b"")
 
 
+def migrate_answer(content):
+    """What must come of `migrate` of an image of these bytes."""
+    try:
+        return Answer(0, b"", b"", migrated(content))
+    except Broken as broken:
+        return bad_image(broken)
+
+
 def main(command, *names):
     """Tells what must come of a call."""
     contents = []
     for name in names:
         with open(name, "rb") as file:
             contents.append(file.read())
-    answer = walk_answer(*contents) if command == "walk" else run_answer(*contents, given=sys.stdin.buffer.read())
+    if command == "migrate":
+        answer = migrate_answer(*contents)
+        answer.output = answer.saved or b""
+    else:
+        answer = walk_answer(*contents) if command == "walk" else run_answer(*contents, given=sys.stdin.buffer.read())
     sys.stdout.buffer.write(answer.output)
     sys.stderr.buffer.write(answer.log)
     return answer.status
