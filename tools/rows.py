@@ -25,6 +25,9 @@ A file has one of these after its name, and so has `then`; the paths of `from` b
                                 `first 0 .. 3 bytes` (a run for each length), `each byte xor ff` or `each byte is 00` (a run for each byte), `at 64 00 00`, `24 has 00 01`
                                 (which those bytes must be already), `and 00` (at the end)
     elf of a.cmm b.cmm          the ELF file of that image, as tools/elf.py writes it by the table of docs/FORMATS.md
+    hex PATH                    the bytes that a file, whose path begins at rows/ too, has in hexadecimal digits, but for lines that begin with `#`; CHANGES may follow
+    migration of i              what `migrate` must make of the file `i` of the case, as tools/migrating.py writes it; CHANGES may follow
+    snapshot of i               what a run of the image in the file `i` leaves where its first yield stops it, by tools/second_reading.py; CHANGES may follow
 
 `longest: 2` is how many bytes a read of a file or a write moves at most (`1 .. 3`: a run for each number); with 0 a write takes nothing.
 `input fails`, `output fails` and `log fails` make that stream one that cannot be read or written. `fails: log 2` makes one call on a device fail, counted from
@@ -53,13 +56,17 @@ import sys
 import tempfile
 
 from elf import elf_file, parts
-from image_reading import read_image
+from image_reading import Broken, read_image
+from migrating import migrated
+from second_reading import run_answer
 
 TOOLS = os.path.dirname(os.path.abspath(__file__))
 ROWS = os.path.join(os.path.dirname(TOOLS), "rows")
 QUOTED = r'"(?:[^"\\]|\\.)*"'
 ESCAPES = {"n": 10, "t": 9, "r": 13, "0": 0, "\\": 92, '"': 34}
 USAGE, REFUSED, FILE_FAULT = 2, 3, 9
+# (how a content begins that is made, and may be changed then)
+MADE = ("is ", "by ", "hex ", "image of ", "elf of ", "migration of ", "snapshot of ")
 SECONDS = 120
 
 
@@ -200,36 +207,8 @@ def sum_of(text, names):
 
 
 def frames_of(image):
-    """The frame size of each procedure of an image, by its name: docs/FORMATS.md has the fields."""
-    at = 64 + int.from_bytes(image[8:16], "little") + int.from_bytes(image[16:24], "little")
-
-    def number(size):
-        nonlocal at
-        at += size
-        return int.from_bytes(image[at - size : at], "little")
-
-    def skip_each(count, size):
-        nonlocal at
-        times = number(count)
-        at += times * size
-
-    found = {}
-    for _ in range(int.from_bytes(image[40:44], "little")):
-        number(8)
-        length = number(1)
-        name = image[at : at + length].decode()
-        at += length
-        found[f"frame.{name}"] = number(4)
-        number(4)
-        skip_each(1, 5)
-        for _ in range(number(2)):
-            number(2)
-            skip_each(1, 1)
-        skip_each(2, 4)
-        for _ in range(number(2)):
-            number(12)
-            skip_each(1, 2)
-    return found
+    """The frame size of each procedure of an image, by its name."""
+    return {f"frame.{procedure.name.decode()}": procedure.frame for procedure in read_image(image).procedures}
 
 
 def fault_of_places(told, places):
@@ -360,7 +339,7 @@ class Runner:
         if told.startswith("from "):
             with open(os.path.join(ROWS, told[5:]), "rb") as file:
                 return [file.read()]
-        if not told.startswith(("is ", "by ", "image of ", "elf of ")):
+        if not told.startswith(MADE):
             return [plain(told)]
         made, *changes = re.split(r",\s+", told)
         found = [self.made(case, made)]
@@ -374,8 +353,14 @@ class Runner:
             return case.units[told[3:]]
         if told.startswith("by "):
             return self.printed(told[3:])
-        image = self.image_of(case, told.partition(" of ")[2].split())
-        return elf_file(*parts(image)) if told.startswith("elf of ") else image
+        if told.startswith("hex "):
+            return of_digits(told[4:])
+        what, _, names = told.partition(" of ")
+        if what in ("migration", "snapshot"):
+            content = self.contents(case, case.files[names])[0]
+            return migrated(content) if what == "migration" else stopped(content)
+        image = self.image_of(case, names.split())
+        return elf_file(*parts(image)) if what == "elf" else image
 
     def texts_of(self, case):
         """What stands for `$NAME` in a case."""
@@ -455,6 +440,20 @@ class Runner:
         again = call(self.program, ["run", *options, "--", "image"], beside, given)
         same = (again.status, again.log, again.output, again.files) == (answer.status, answer.log, answer.output, beside)
         return None if same else f"`run` of the image answers {again.status} {again.log} {again.output}"
+
+
+def of_digits(path):
+    """The bytes that a file has in hexadecimal digits."""
+    with open(os.path.join(ROWS, path), encoding="utf-8") as file:
+        return bytes.fromhex("".join(line for line in file if not line.startswith("#")))
+
+
+def stopped(image):
+    """The snapshot of a run that its first yield stops."""
+    saved = run_answer(image).saved
+    if saved is None:
+        raise BadRow("the run of the image is not stopped")
+    return saved
 
 
 def printed(words):
@@ -540,7 +539,7 @@ def main(program, *paths):
                     faults.setdefault(case.place, f"{case.title}: {fault}")
                 for files, then, limits in runner.runs(case):
                     runs[pool.submit(runner.fault_of, case, texts, files, then, limits)] = case
-            except (BadRow, KeyError, subprocess.TimeoutExpired) as why:
+            except (BadRow, Broken, KeyError, subprocess.TimeoutExpired) as why:
                 faults.setdefault(case.place, f"{case.title}: {why}")
         for run, case in runs.items():
             try:
