@@ -5,9 +5,9 @@
     names      folders in place of files, names of 4,095 bytes and of one more, files that are pipes
     input      standard input that ends in mid-run
     deep       the deepest units that there are, with a stack of 1 MiB, by `exec` and by `build`, and with one that is too small for most
-    calls      each of the first 40 calls on files, streams and their bytes fails in turn (failing_calls.c), in `build`, `run`, `exec` and `walk`
+    calls      each of the first 40 calls on files, streams and their bytes fails in turn (failing_calls.c), in `build`, `run`, `exec`, `walk` and `migrate`
     pieces     the same commands where a call moves only a few bytes of a file or a stream, and where a write takes nothing
-    memory     each request for memory is refused in turn, in `exec` of two units with a client and in `run` with `--save`; only where this part is named
+    memory     each request for memory is refused in turn, in `exec` of two units with a client, in `run` with `--save` and in `migrate`; only where this part is named
 
 Of each it tests the status and the line, that no file changed but the one that the words name, and that this has a front of what was to be written. The last line is
 `N runs, M failed`.
@@ -23,9 +23,11 @@ import tempfile
 import threading
 
 import rows
+from image_reading import read_image
+from migrating import image_bytes, migrated
 from second_reading import run_answer
 
-DONE, USAGE, REFUSED, STOPPED, FILE_FAULT, INPUT_FAULT, OUTPUT_FAULT, MEMORY = 0, 2, 3, 5, 9, 10, 11, 12
+DONE, USAGE, REFUSED, BAD_IMAGE, STOPPED, FILE_FAULT, INPUT_FAULT, OUTPUT_FAULT, MEMORY = 0, 2, 3, 4, 5, 9, 10, 11, 12
 SECONDS = 300
 MIB = 1 << 20
 # An eighth of what systems usually give, which is enough for each unit (docs/PERFORMANCE.md), and what is too little for most of the deepest.
@@ -131,6 +133,10 @@ class Cases:
             sys.exit(f"no image is built: {made.log!r}")
         return made.files["i"]
 
+    def first_image(self, *units):
+        """An image of version 1."""
+        return image_bytes(read_image(self.image(*units)), 1)
+
     def must(self, title, words, world, status, output=b"", log=b"", then=None):
         """Runs the program, and compares; `then` are files that must be there beside those of the world, or as others."""
         self.count += 1
@@ -172,7 +178,30 @@ def devices(cases):
     cases.must("log to a pipe that nobody reads", ["exec", "a.cmm"], dataclasses.replace(put, log="unread"), OUTPUT_FAULT, b"A\n")
     cases.must("walk to a pipe that nobody reads", ["walk", "i", "s"], dataclasses.replace(walk, output="unread"), OUTPUT_FAULT)
     cases.must("build, and streams that nobody reads", ["build", "a.cmm", "-o", "i"], dataclasses.replace(put, output="unread", log="unread"), DONE, then={"i": cases.image(PUT)})
+    migrations(cases)
     limits_on_files(cases, stops, saved, run)
+
+
+def migrations(cases):
+    """The same of `migrate`, which writes a file, and a line only where it is not done."""
+    first, words = cases.first_image(YIELDS, ASKS), ["migrate", "i", "-o", "j"]
+    world, then = World({"i": first, "j": b"old"}), {"j": migrated(first)}
+    bad = World({"i": b"no image", "j": b"old"})
+    cases.must("migrated image to a full device", ["migrate", "i", "-o", "/dev/full"], world, FILE_FAULT, log=b"file fault /dev/full\n")
+    cases.must("migrate, and all streams are closed", words, dataclasses.replace(world, input="closed", output="closed", log="closed"), DONE, then=then)
+    cases.must("migrate, and streams that nobody reads", words, dataclasses.replace(world, output="unread", log="unread"), DONE, then=then)
+    cases.must("migrate, and streams that are full", words, dataclasses.replace(world, output="/dev/full", log="/dev/full"), DONE, then=then)
+    for told in ("/dev/full", "closed", "unread"):
+        cases.must(f"migrate of no image, and a log that is {told}", words, dataclasses.replace(bad, log=told), OUTPUT_FAULT)
+    cases.must("migrate of no image, and an output that is full", words, dataclasses.replace(bad, output="/dev/full"), BAD_IMAGE, log=b"bad image 50 at 0\n")
+    for room in (0, 1, 64, len(then["j"]) - 1, len(then["j"])):
+        limited = dataclasses.replace(world, limits={resource.RLIMIT_FSIZE: room})
+        if room == len(then["j"]):
+            cases.must("migrated image where files have just its bytes", words, limited, DONE, then=then)
+            continue
+        left = {"j": then["j"][:room]}
+        cases.must(f"migrated image where files have {room} bytes", words, dataclasses.replace(limited, ignored=(signal.SIGXFSZ,)), FILE_FAULT, log=b"file fault j\n", then=left)
+        cases.must(f"migrated image where files have {room} bytes, by the signal", words, limited, -signal.SIGXFSZ, then=left)
 
 
 def limits_on_files(cases, stops, saved, run):
@@ -201,17 +230,21 @@ def names(cases):
     """Folders, long names and pipes."""
     image, stops = cases.image(SUM), cases.image(YIELDS, ASKS)
     saved = run_answer(stops, b"", b"xy")
-    files = {"a.cmm": SUM, "i": image, "t": stops, "s": saved.saved}
+    first = cases.first_image(YIELDS, ASKS)
+    files = {"a.cmm": SUM, "i": image, "t": stops, "f": first, "s": saved.saved}
     world = World(files, ("d",), given=b"xy")
     log = b"file fault d\n"
     for words in (["exec", "d"], ["exec", "a.cmm", "d"], ["build", "d", "-o", "n"], ["build", "a.cmm", "-o", "d"], ["run", "d"], ["run", "i", "--client", "d"], ["walk", "d", "s"], ["walk", "i", "d"]):
+        cases.must(f"a folder: {' '.join(words)}", words, world, FILE_FAULT, log=log)
+    for words in (["migrate", "d", "-o", "n"], ["migrate", "f", "-o", "d"], ["migrate", "d", "-o", "d"]):
         cases.must(f"a folder: {' '.join(words)}", words, world, FILE_FAULT, log=log)
     closing = saved.log.removesuffix(b"stopped\n") + log
     cases.must("a folder: --save", ["run", "t", "--save", "d"], world, FILE_FAULT, saved.output, closing)
     long_names(cases, files)
     pipes = World(pipes={"p": image})
     cases.must("an image that is a pipe", ["run", "p"], pipes, DONE, log=b"result 5\n")
-    cases.must("an image that is a pipe without bytes", ["run", "p"], World(pipes={"p": b""}), 4, log=b"bad image 52 at 0\n")
+    cases.must("an image that is a pipe without bytes", ["run", "p"], World(pipes={"p": b""}), BAD_IMAGE, log=b"bad image 52 at 0\n")
+    cases.must("an image to be migrated that is a pipe", ["migrate", "p", "-o", "j"], World(pipes={"p": first}), DONE, then={"j": migrated(first)})
     walk = "".join(line + "\n" for line in ("activation 0 f site 0", 'var 0 bits64 "" 120', 'var 1 bits64 "" 121', "activation 1 main site 0", 'var 0 bits64 "" dead', 'var 1 bits64 "" dead', "end"))
     cases.must("an image and a snapshot that are pipes", ["walk", "p", "q"], World(pipes={"p": stops, "q": saved.saved}), DONE, walk.encode())
     cases.must("units that are pipes", ["exec", "p", "q"], World(pipes={"p": YIELDS, "q": ASKS}, given=b"xy"), STOPPED, b"x", b"yield 7 120\nstopped\n")
@@ -229,6 +262,9 @@ def long_names(cases, files):
         cases.must(f"a unit's name of {size} bytes", ["exec", name("a.cmm", size)], world, status, log=log)
         cases.must(f"an image's name of {size} bytes", ["run", name("i", size)], world, status, log=log)
         cases.must(f"a name of {size} bytes to write to", ["build", "a.cmm", "-o", name("n", size)], world, status, log=b"" if then else log, then=then)
+        then = {"n": migrated(files["f"])} if status == DONE else {}
+        cases.must(f"a name of {size} bytes to migrate to", ["migrate", "f", "-o", name("n", size)], world, status, log=b"" if then else log, then=then)
+        cases.must(f"a name of {size} bytes to migrate", ["migrate", name("f", size), "-o", "n"], world, status, log=b"" if then else log, then=then)
     missing = name("none", 4095)
     cases.must("a name of 4095 bytes without a file", ["run", missing], world, FILE_FAULT, log=f"file fault {missing}\n".encode())
     cases.must("one part of a name with 4095 bytes", ["run", "n" * 4095], world, FILE_FAULT, log=b"file fault " + b"n" * 4095 + b"\n")
@@ -344,6 +380,7 @@ def commands_of(cases):
         (["run", "i", "--client", "c"], {"i": image, "c": SCRIPT}, None),
         (["run", "i", "--client", "c", "--save", "s"], {"i": image, "c": STOPS, "s": b"old"}, "s"),
         (["walk", "i", "s"], {"i": image, "s": saved}, None),
+        (["migrate", "i", "-o", "j"], {"i": cases.first_image(YIELDS, ASKS), "j": b"old"}, "j"),
     ]
 
 
@@ -401,7 +438,7 @@ def pieces(cases):
         cases.count += 1
         found = rows.call(cases.program, words, files, b"xy", rows.Limits(longest=0))
         # (the line that says so is not taken either)
-        left = {**files, written: b""} if words[0] == "build" else files
+        left = {**files, written: b""} if words[0] in ("build", "migrate") else files
         if (found.status, found.output, found.log, found.files) != (OUTPUT_FAULT, b"", b"", left):
             cases.fault(f"{' '.join(words)}, where a write takes nothing", f"answered {found.status} {found.output!r} {found.log[-99:]!r} {shown(found.files)}")
 
@@ -416,6 +453,7 @@ def refused_memory(cases):
     files = {name: rows.plain(told) for name, told in case.files.items()}
     refused_requests(cases, case.words.split(), files)
     refused_requests(cases, ["run", "i", "--client", "c", "--save", "s"], {"i": cases.image(YIELDS, ASKS), "c": STOPS, "s": b"old"})
+    refused_requests(cases, ["migrate", "i", "-o", "j"], {"i": cases.first_image(YIELDS, ASKS), "j": b"old"})
 
 
 def refused_requests(cases, words, files):

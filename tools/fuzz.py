@@ -7,8 +7,9 @@ rows/, and changes one of them in a few places:
 
     unit        `exec` of the units, and `build` with `run`, which must come to the same; what is built, to what tools/second_reading.py says of it too
     script      the same with the script of a client
-    image       `run`, which must come to what the second reading says
-    snapshot    `walk`, which must come to what the second reading says
+    image       `run` of an image of either version, which must come to what the second reading says
+    snapshot    `walk` of an image of either version, which must come to what the second reading says
+    migration   `migrate`, which must come to what the second reading says, and where it is done, `run` of both images, which must come to the same
 
 Reported are also a signal, a status that is none of those in TOLD (no device fails here, and memory is ample), an answer that takes too long, and a file that was made or
 changed though it is not the one that the words name. The last line has the counts of cases by sort and status, and how many failed.
@@ -27,10 +28,12 @@ import tempfile
 import time
 
 import rows
-from second_reading import run_answer, walk_answer
+from image_reading import CALLEE_SAVES, read_image
+from migrating import image_bytes
+from second_reading import migrate_answer, run_answer, walk_answer
 
 EXAMPLES = os.path.join(os.path.dirname(rows.ROWS), "examples")
-SORTS = ("unit", "script", "image", "snapshot")
+SORTS = ("unit", "script", "image", "snapshot", "migration")
 TOLD = {0: "done", 3: "refused", 4: "bad image", 5: "stopped", 6: "stack limit", 7: "step limit", 8: "trap", 13: "bad snapshot", 14: "bad script", 15: "torn"}
 REFUSED, STOPPED = 3, 5
 SECONDS = 300
@@ -152,16 +155,29 @@ def changed_script(chance, script):
 
 
 def changed_image(chance, image):
-    """An image with other words in its code, or with other bytes somewhere."""
-    if chance.randrange(2) == 0:
+    """An image with other words in its code, or with other bytes in its tables or somewhere."""
+    sort, length = chance.randrange(3), int.from_bytes(image[8:16], "little")
+    if sort == 0:
         return changed_bytes(chance, image)
-    length = int.from_bytes(image[8:16], "little")
+    if sort == 1:
+        tables = 64 + length + int.from_bytes(image[16:24], "little")
+        return image[:tables] + changed_bytes(chance, image[tables:])
     code = bytearray(image[64 : 64 + length])
     for _ in range(chance.choice((1, 1, 2, 3))):
         at, other = chance.randrange(length // 4) * 4, chance.randrange(length // 4) * 4
         word = int.from_bytes(code[at : at + 4], "little") ^ 1 << chance.choice((*range(32), *range(20, 32)))
         code[at : at + 4] = chance.choice((bytes(code[other : other + 4]), word.to_bytes(4, "little"), word.to_bytes(4, "little")))
     return image[:64] + bytes(code) + image[64 + length :]
+
+
+def changed_places(chance, image):
+    """An image of version 1 in which a few variables are elsewhere, each at one site."""
+    read = read_image(image)
+    live = [(site, n) for site in read.sites.values() for n, location in enumerate(site.locations) if location is not None]
+    for site, n in chance.sample(live, min(len(live), chance.choice((1, 1, 2, 5)))):
+        offset = chance.randrange(site.procedure.frame - 7)
+        site.locations[n] = chance.choice((None, ("register", chance.choice(CALLEE_SAVES)), ("frame", offset), ("frame", offset // 8 * 8)))
+    return image_bytes(read, 1)
 
 
 def changed_bytes(chance, content, most=None):
@@ -254,7 +270,7 @@ class Cases:
         self.folder = Folder(program)
         self.programs = programs()
         self.scripted = [(units, script) for units, script in self.programs if script]
-        self.images, self.stopped = {}, {}
+        self.images, self.firsts, self.stopped = {}, {}, {}
 
     def image_of(self, number):
         """The image of a program, None where it is refused."""
@@ -265,12 +281,19 @@ class Cases:
             self.images[number] = None if status else held()["i"]
         return self.images[number]
 
+    def first_of(self, number):
+        """The image of a program in version 1, None where it is refused."""
+        if number not in self.firsts:
+            image = self.image_of(number)
+            self.firsts[number] = image and image_bytes(read_image(image), 1)
+        return self.firsts[number]
+
     def stopped_of(self, number):
-        """The image of a program, and a snapshot of its run, None where it is refused or its client does not stop it."""
+        """The image of a program in both versions, and a snapshot of its run, None where it is refused or its client does not stop it."""
         if number not in self.stopped:
             image = self.image_of(number)
             saved = image and run_answer(image, b"", b"", 10_000, 1024).saved
-            self.stopped[number] = (image, saved) if saved else None
+            self.stopped[number] = ((self.first_of(number), image), saved) if saved else None
         return self.stopped[number]
 
     def one_of(self, chance, found):
@@ -328,7 +351,7 @@ class Cases:
         return apart[0]
 
     def image(self, chance):
-        image = changed_image(chance, self.one_of(chance, self.image_of))
+        image = changed_image(chance, self.one_of(chance, chance.choice((self.first_of, self.image_of))))
         steps, stack, limits = self.limits(chance)
         script = chance.choice((b"", b"", chance.choice(self.scripted)[1]))
         files = {"i": image, "c": script}
@@ -340,7 +363,8 @@ class Cases:
         return found[0]
 
     def snapshot(self, chance):
-        image, saved = self.one_of(chance, self.stopped_of)
+        images, saved = self.one_of(chance, self.stopped_of)
+        image = chance.choice(images)
         if chance.randrange(4) == 0:
             image = changed_bytes(chance, image)
         saved = changed_bytes(chance, image[:64].join((saved[:8], saved[72:])), chance.choice((120, 344, len(saved))))
@@ -352,6 +376,36 @@ class Cases:
         same("walk, and the second reading", found, (wanted.status, wanted.output, wanted.log))
         same("files after walk", held(), files)
         return found[0]
+
+
+    def migration(self, chance):
+        number = self.one_of(chance, lambda it: None if self.image_of(it) is None else it)
+        image = self.first_of(number)
+        sort = chance.randrange(6)
+        if sort == 0:
+            same("migration, and what is built", migrate_answer(image).saved, self.image_of(number))
+        elif sort == 1:
+            image = changed_image(chance, self.image_of(number))
+        else:
+            image = (changed_places if sort < 4 else changed_image)(chance, image)
+        to, files = chance.choice(("i", "j", "j")), {"i": image, **chance.choice(({}, {"j": b"old"}))}
+        self.folder.put(files)
+        found, wanted = self.folder.call(["migrate", "i", "-o", to]), migrate_answer(image)
+        same("migrate, and the second reading", found, (wanted.status, wanted.output, wanted.log))
+        same("files after migrate", held(), {**files, **({to: wanted.saved} if wanted.saved else {})})
+        if wanted.saved:
+            self.both_versions(chance, image, to)
+        return found[0]
+
+    def both_versions(self, chance, image, to):
+        """What has been migrated runs as the image of version 1 does."""
+        steps, stack, limits = self.limits(chance)
+        script = chance.choice(self.scripted)[1]
+        with open("c", "wb") as file:
+            file.write(script)
+        wanted = run_answer(image, script, b"ab", steps, stack)
+        found = self.folder.call(["run", to, "--client", "c", *limits], b"ab")
+        same("run of version 2, and the second reading of version 1", found, (wanted.status, wanted.output, wanted.log))
 
 
 # ---- a process with its part of the seeds

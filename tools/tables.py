@@ -1,9 +1,12 @@
 #!/usr/bin/env python3
 """Runs a built program on tables of cases, most of them images, snapshots and scripts that are cut or changed: tables.py PROGRAM [EVERY]
 
-    images      each proper front of the image of DIVISION, and that image with a byte more
-    snapshots   each proper front of the snapshot that the client of this leaves, and that snapshot with a byte more
-    bytes       the image of SUM with each single byte set to 0 and to 255, run for at most 10,000 instructions
+    images      each proper front of the image of DIVISION, and that image with a byte more; the same of an image of version 1 that is kept in rows/version_1/
+    snapshots   each proper front of the snapshot that the client of the former leaves, and that snapshot with a byte more; a snapshot of version 1 in both versions
+    bytes       the image of SUM with each single byte set to 0 and to 255, run for at most 10,000 instructions; the same of one of version 1 that is kept, and of the one
+                that tools/image_bytes.py writes in version 2
+    migration   `migrate` of an image of version 1 that is kept, and of the one that tools/image_bytes.py writes: each proper front, a byte more, and each single byte set
+                to 0 and to 255
     scripts     each front of five scripts, with the unit that each of them is for
     steps       CALLS and a script for it, `exec` and `build` with `run`, with each limit on instructions from 0 to 400
     registers   the image of ELEVEN: its eleven variables that are live over a call are in eleven registers
@@ -17,8 +20,9 @@ import os
 import sys
 
 import rows
+from image_bytes import twin
 from image_reading import CALLEE_SAVES, Broken, read_image, read_snapshot
-from second_reading import run_answer, walk_answer
+from second_reading import migrate_answer, run_answer, walk_answer
 
 STEPS = 10_000
 # The least stack that the frame of DIVISION's main leaves room for, so that its snapshot has few bytes.
@@ -77,7 +81,9 @@ class Table:
         self.waiting.append((title, self.pool.submit(self.fault_of, words, files, answer, *inputs)))
 
     def fault_of(self, words, files, answer, *inputs):
-        return difference(rows.call(self.program, words, files), answer(*inputs), files)
+        wanted = answer(*inputs)
+        made = {"j": wanted.saved} if answer == migrate_answer and wanted.saved else {}
+        return difference(rows.call(self.program, words, files), wanted, {**files, **made})
 
     def faults(self):
         """What is wrong with the runs, each with its title."""
@@ -94,31 +100,68 @@ def cut_inside(read, content, rule):
     sys.exit(f"the first {len(content)} bytes do not break rule {rule} by the second reading")
 
 
+def kept(name):
+    """An image of version 1."""
+    return rows.of_digits(f"version_1/{name}.hex")
+
+
 def images_and_snapshots(table):
-    image = table.build(DIVISION)
-    for end in range(len(image)):
-        cut_inside(read_image, image[:end], 52)
-        table.add(f"image cut at {end}", ["run", "i"], {"i": image[:end]}, run_answer, image[:end])
-    table.add("image and a byte", ["run", "i"], {"i": image + b"\0"}, run_answer, image + b"\0")
+    image, first = table.build(DIVISION), kept("places")
+    cut_image(table, "image", ["run", "i"], image, run_answer)
+    cut_image(table, "image of version 1", ["run", "i"], first, run_answer)
+    cut_snapshot(table, image, snapshot_of(table, image))
+    saved = snapshot_of(table, first)
+    for told, content in (("version 1", first), ("version 2 and a snapshot of version 1", image)):
+        table.add(f"walk of {told}", ["walk", "i", "s"], {"i": content, "s": saved}, walk_answer, content, saved)
+
+
+def snapshot_of(table, image):
+    """The snapshot that a run of an image leaves."""
     whole = run_answer(image, stack=STACK)
-    words = ["run", "i", "--save", "s", "--stack", str(STACK)]
-    made = rows.call(table.program, words, {"i": image})
+    made = rows.call(table.program, ["run", "i", "--save", "s", "--stack", str(STACK)], {"i": image})
     if fault := difference(made, whole, {"i": image, "s": whole.saved}):
         sys.exit(f"the snapshot: {fault}")
+    return whole.saved
+
+
+def cut_image(table, told, words, image, answer):
+    """Each front of an image, and a byte more."""
+    for end in range(len(image)):
+        cut_inside(read_image, image[:end], 52)
+        table.add(f"{told} cut at {end}", words, {"i": image[:end]}, answer, image[:end])
+    table.add(f"{told} and a byte", words, {"i": image + b"\0"}, answer, image + b"\0")
+
+
+def cut_snapshot(table, image, saved):
+    """Each front of a snapshot, all of it, and a byte more."""
     read = read_image(image)
-    for end in range(len(whole.saved) + 1):
-        if end < len(whole.saved):
-            cut_inside(lambda content: read_snapshot(read, content), whole.saved[:end], 70)
-        table.add(f"snapshot cut at {end}", ["walk", "i", "s"], {"i": image, "s": whole.saved[:end]}, walk_answer, image, whole.saved[:end])
-    table.add("snapshot and a byte", ["walk", "i", "s"], {"i": image, "s": whole.saved + b"\0"}, walk_answer, image, whole.saved + b"\0")
+    for end in range(len(saved) + 1):
+        if end < len(saved):
+            cut_inside(lambda content: read_snapshot(read, content), saved[:end], 70)
+        table.add(f"snapshot cut at {end}", ["walk", "i", "s"], {"i": image, "s": saved[:end]}, walk_answer, image, saved[:end])
+    table.add("snapshot and a byte", ["walk", "i", "s"], {"i": image, "s": saved + b"\0"}, walk_answer, image, saved + b"\0")
 
 
 def changed_bytes(table):
-    image = table.build(SUM)
+    for told, image in (("image", table.build(SUM)), ("image of version 1", kept("sum")), ("image of sites", bytes(twin(2).out))):
+        for at, value, changed in each_byte(image):
+            table.add(f"{told}, byte {at} is {value}", ["run", "i", "--steps", str(STEPS)], {"i": changed}, run_answer, changed, b"", b"", STEPS)
+
+
+def each_byte(image):
+    """The images with one byte set to 0 or to 255, and which byte that is."""
     for at in range(len(image)):
         for value in (0, 255):
-            changed = image[:at] + bytes([value]) + image[at + 1 :]
-            table.add(f"byte {at} is {value}", ["run", "i", "--steps", str(STEPS)], {"i": changed}, run_answer, changed, b"", b"", STEPS)
+            yield at, value, image[:at] + bytes([value]) + image[at + 1 :]
+
+
+def migrations(table):
+    words = ["migrate", "i", "-o", "j"]
+    for told, image in (("migration", kept("places")), ("migration of sites", bytes(twin(1).out))):
+        table.add(told, words, {"i": image}, migrate_answer, image)
+        cut_image(table, told, words, image, migrate_answer)
+        for at, value, changed in each_byte(image):
+            table.add(f"{told}, byte {at} is {value}", words, {"i": changed}, migrate_answer, changed)
 
 
 def cut_scripts(table):
@@ -150,7 +193,7 @@ def main(program, every="1"):
     with concurrent.futures.ThreadPoolExecutor(min(4, os.cpu_count() or 1)) as pool:
         table = Table(os.path.abspath(program), int(every), pool)
         live_registers(table)
-        for part in (images_and_snapshots, changed_bytes, cut_scripts, limits_on_steps):
+        for part in (images_and_snapshots, changed_bytes, migrations, cut_scripts, limits_on_steps):
             part(table)
         faults = table.faults()
     print("\n".join([*faults, f"tables: {len(table.waiting)} runs, {len(faults)} failed"]))
