@@ -277,7 +277,7 @@ module _
           data_room,
           length-append tables_part symbols,
           second_is_short (length t.code) (length procs) (length sites) (procs, sites) tables_hold,
-          added_long p p.procs places t.procedures t.landings given.range.procedures,
+          added_long p (length t.code) p.procs places t.procedures t.landings given.range.procedures,
           length-append procs_part sites_part,
           procedures_long,
           sites_long (length t.code) procs sites sites_valid,

@@ -74,7 +74,7 @@ IsFaultIn Fault bytes _ = ⊥
 
 -- why there is no image in bytes
 abbrev pub IsNotImage : List ℕ → Ending → Type 0
-IsNotImage bytes ending = IsFaultIn IsFirstImageFault bytes ending
+IsNotImage bytes = IsFaultIn IsFirstImageFault bytes
 
 -- why there is no snapshot of a run of an image in bytes
 abbrev pub IsNotSnapshot : ImageParts → List ℕ → Ending → Type 0
