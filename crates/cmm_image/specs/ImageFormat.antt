@@ -51,12 +51,27 @@ formed test = record { rule = BadImageField; holds = test }
 abbrev pub within : {A : Type 0} → (A → Bool) → Condition A
 within test = record { rule = ImageOutOfRange; holds = test }
 
--- an address in code of this length
+-- code: the address at which it begins, and its length in bytes
+pub record Code : Type 0 where
+  pub base : ℕ
+  pub size : ℕ
+
+-- an address in code
+abbrev pub is_in : Code → ℕ → Bool
+is_in code address = nat_le code.base address && nat_lt address (code.base + code.size) && (address % 4 == 0)
+
+abbrev pub lies_in : Code → Condition ℕ
+lies_in code = within (is_in code)
+
+-- the code of an image, which has this length
+abbrev pub image_code : ℕ → Code
+image_code length = record { base = CODE_BASE; size = length }
+
 abbrev pub is_in_code : ℕ → ℕ → Bool
-is_in_code length address = nat_le CODE_BASE address && nat_lt address (CODE_BASE + length) && (address % 4 == 0)
+is_in_code length address = is_in (image_code length) address
 
 abbrev pub in_code : ℕ → Condition ℕ
-in_code length = within (is_in_code length)
+in_code length = lies_in (image_code length)
 
 -- an address in data of this length, or its code_length
 abbrev pub is_in_data : ℕ → ℕ → Bool
@@ -174,12 +189,15 @@ variable_number count previous = as_ (λ n. record { 0 = n }) (λ v. v.0) (u16 w
 abbrev pub is_pair : ℕ → ℕ → Bool
 is_pair frame n = (n % 8 == 0) && leaves 16 frame n
 
-abbrev pub continuation : ℕ → ℕ → ℕ → Option ContinuationRow → Format ContinuationRow
-continuation code_length frame variables previous = as_ (λ x. record { pair = x.0; code = x.1.0; parameters = x.1.1 }) (λ c. (c.pair, (c.code, c.parameters))) (
+abbrev pub continuation_in : Code → ℕ → ℕ → Option ContinuationRow → Format ContinuationRow
+continuation_in code frame variables previous = as_ (λ x. record { pair = x.0; code = x.1.0; parameters = x.1.1 }) (λ c. (c.pair, (c.code, c.parameters))) (
     u32 when (within (is_pair frame) ∷ [])
-    ▸ λ pair. u64 when (in_code code_length ∷ [])
-    ▸ λ code. counted (u8 when (formed (λ n. nat_le n 64) ∷ [])) (variable_number variables)
+    ▸ λ pair. u64 when (lies_in code ∷ [])
+    ▸ λ cuts. counted (u8 when (formed (λ n. nat_le n 64) ∷ [])) (variable_number variables)
     )
+
+abbrev pub continuation : ℕ → ℕ → ℕ → Option ContinuationRow → Format ContinuationRow
+continuation code_length frame variables previous = continuation_in (image_code code_length) frame variables previous
 
 -- the mark of a procedure that saves no return address
 abbrev pub no_return : ℕ
@@ -210,17 +228,20 @@ procedure_of (code, (name, (frame, (return_at, (saved, (variables, (stack_labels
 abbrev pub procedure_fields : ProcRow → ProcedureFields
 procedure_fields p = (p.code, (p.name, (p.frame, (p.return_at, (p.saved, (p.variables, (p.stack_labels, p.continuations)))))))
 
--- the fields of a procedure, whose variables, in a frame of a size, have a format of their own: behind a procedure at an address
-abbrev pub procedure_with : {V : Type 0} → (ℕ → Option V → Format V) → ℕ → Option ℕ → Format (FieldsWith V)
-procedure_with variable code_length previous =
-    u64 when (above previous ∷ in_code code_length ∷ [])
-    ▸ λ code. text ImageIsCut
+-- the fields of a procedure in code, whose variables, in a frame of a size, have a format of their own: behind a procedure at an address
+abbrev pub procedure_in : {V : Type 0} → (ℕ → Option V → Format V) → Code → Option ℕ → Format (FieldsWith V)
+procedure_in variable code previous =
+    u64 when (above previous ∷ lies_in code ∷ [])
+    ▸ λ address. text ImageIsCut
     ▸ λ name. u32 when (formed (λ n. n % 16 == 0) ∷ within (λ n. nat_le n 0x10000000) ∷ [])
     ▸ λ frame. optional ImageIsCut 4 no_return (within (is_return_offset frame) ∷ [])
     ▸ λ return_at. counted u8 (saved_register frame)
     ▸ λ saved. counted (u16 when (formed (λ n. nat_le n 1024) ∷ [])) (variable frame)
     ▸ λ variables. counted u16 (stack_label frame)
-    ▸ λ stack_labels. counted u16 (continuation code_length frame (length variables))
+    ▸ λ stack_labels. counted u16 (continuation_in code frame (length variables))
+
+abbrev pub procedure_with : {V : Type 0} → (ℕ → Option V → Format V) → ℕ → Option ℕ → Format (FieldsWith V)
+procedure_with variable code_length previous = procedure_in variable (image_code code_length) previous
 
 abbrev pub procedure : ℕ → Option ProcRow → Format ProcRow
 procedure code_length previous = as_ procedure_of procedure_fields (procedure_with (λ frame. variable) code_length (option_map (λ p. p.code) previous))
@@ -248,17 +269,21 @@ has_sites procedures n = may_have_sites (procedure_at procedures n).frame (proce
 abbrev pub continuation_number : ℕ → Option ContinuationNumber → Format ContinuationNumber
 continuation_number count previous = as_ (λ n. record { 0 = n }) (λ c. c.0) (u16 when (formed (λ n. nat_lt n count) ∷ []))
 
-abbrev pub unwind : ℕ → ℕ → Option UnwindRow → Format UnwindRow
-unwind code_length count previous = as_ (λ x. record { continuation = x.0; landing = x.1 }) (λ u. (u.continuation, u.landing)) (
+abbrev pub unwind_in : Code → ℕ → Option UnwindRow → Format UnwindRow
+unwind_in code count previous = as_ (λ x. record { continuation = x.0; landing = x.1 }) (λ u. (u.continuation, u.landing)) (
     continuation_number count None
-    ▸ λ continuation. u64 when (in_code code_length ∷ [])
+    ▸ λ continuation. u64 when (lies_in code ∷ [])
     )
 
+abbrev pub unwind : ℕ → ℕ → Option UnwindRow → Format UnwindRow
+unwind code_length count previous = unwind_in (image_code code_length) count previous
+
+-- a span behind one with this token, whose value has a format of its own
+abbrev pub span_with : {V : Type 0} → Format V → Option ℕ → Format (ℕ × V)
+span_with value previous = u64 when (above previous ∷ []) ▸ λ token. value
+
 abbrev pub span : Option SpanRow → Format SpanRow
-span previous = as_ (λ x. record { token = x.0; value = x.1 }) (λ s. (s.token, s.value)) (
-    u64 when (above (option_map (λ s. s.token) previous) ∷ [])
-    ▸ λ token. u64
-    )
+span previous = as_ (λ x. record { token = x.0; value = x.1 }) (λ s. (s.token, s.value)) (span_with u64 (option_map (λ s. s.token) previous))
 
 -- bit 0: never returns; bit 1: aborts
 abbrev pub flags_of : ℕ → Bool × Bool
@@ -270,11 +295,18 @@ flags_number f = one_if f.0 + 2 * one_if f.1
 abbrev pub flags : Format (Bool × Bool)
 flags = as_ flags_of flags_number (u8 when (formed (λ n. nat_lt n 4) ∷ []))
 
+-- the lists and the fields of a site whose spans are kept as values of a type
+abbrev pub ListsOf : Type 0 → Type 0
+ListsOf S = List ContinuationNumber × (List UnwindRow × (List ContinuationNumber × (List VariablePlace × List S)))
+
+abbrev pub SiteFieldsOf : Type 0 → Type 0
+SiteFieldsOf S = ℕ × (ℕ × (ℕ × ((Bool × Bool) × (Option ℕ × (List Width × ListsOf S)))))
+
 abbrev pub SiteLists : Type 0
-SiteLists = List ContinuationNumber × (List UnwindRow × (List ContinuationNumber × (List VariablePlace × List SpanRow)))
+SiteLists = ListsOf SpanRow
 
 abbrev pub SiteFields : Type 0
-SiteFields = ℕ × (ℕ × (ℕ × ((Bool × Bool) × (Option ℕ × (List Width × SiteLists)))))
+SiteFields = SiteFieldsOf SpanRow
 
 abbrev pub site_of_fields : SiteFields → SiteRow
 site_of_fields (return_address, (procedure, (number, (flags, (yield_values, (results, (returns, (unwinds, (cuts, (variables, spans)))))))))) = record {
@@ -296,17 +328,24 @@ abbrev pub site_fields : SiteRow → SiteFields
 site_fields s = (s.return_address, (s.procedure, (s.number, ((s.never_returns, s.aborts), (s.yield_values, (s.results, (s.returns, (s.unwinds, (s.cuts, (s.variables, s.spans))))))))))
 
 -- behind n alternate exits, of four bytes each, stands the normal return
-abbrev pub exits_in_code : ℕ → ℕ → ℕ → Bool
-exits_in_code code_length return_address n = is_in_code code_length (return_address + 4 * n)
+abbrev pub exits_in : Code → ℕ → ℕ → Bool
+exits_in code return_address n = is_in code (return_address + 4 * n)
 
--- the exits, places and spans of a site, in a procedure which has n continuations, and the places of whose variables have a format
-abbrev pub lists_with : Format (List VariablePlace) → ℕ → ℕ → ℕ → Format SiteLists
-lists_with places code_length continuations return_address =
-    counted (u8 when (formed (λ n. nat_le n 64) ∷ within (exits_in_code code_length return_address) ∷ [])) (continuation_number continuations)
-    ▸ λ returns. counted u16 (unwind code_length continuations)
+abbrev pub exits_in_code : ℕ → ℕ → ℕ → Bool
+exits_in_code code_length return_address n = exits_in (image_code code_length) return_address n
+
+-- the exits, places and spans of a site in code, in a procedure which has n continuations, the places of whose variables have a format, and so have the spans
+abbrev pub lists_in : {S : Type 0} → Format (List VariablePlace) → (Option S → Format S) → Code → ℕ → ℕ → Format (ListsOf S)
+lists_in places span code continuations return_address =
+    counted (u8 when (formed (λ n. nat_le n 64) ∷ within (exits_in code return_address) ∷ [])) (continuation_number continuations)
+    ▸ λ returns. counted u16 (unwind_in code continuations)
     ▸ λ unwinds. counted u16 (continuation_number continuations)
     ▸ λ cuts. places
     ▸ λ variables. counted u16 span
+
+-- those in an image
+abbrev pub lists_with : Format (List VariablePlace) → ℕ → ℕ → ℕ → Format SiteLists
+lists_with places code_length continuations return_address = lists_in places span (image_code code_length) continuations return_address
 
 -- those in a procedure whose frame has a size and which has n variables, each of whose places stands at the site
 abbrev pub site_lists : ℕ → ℕ → ℕ → ℕ → ℕ → Format SiteLists
@@ -316,8 +355,8 @@ abbrev pub site_lists_in : ℕ → ProcRow → ℕ → Format SiteLists
 site_lists_in code_length p return_address = site_lists code_length p.frame (length p.variables) (length p.continuations) return_address
 
 -- the fields of a site: the conditions of its return address, and the formats of its procedure's number and of its lists
-abbrev pub site_with : List (Condition ℕ) → Format ℕ → (ℕ → ℕ → Format SiteLists) → Format SiteRow
-site_with address procedure lists = as_ site_of_fields site_fields (
+abbrev pub site_fields_with : {S : Type 0} → List (Condition ℕ) → Format ℕ → (ℕ → ℕ → Format (ListsOf S)) → Format (SiteFieldsOf S)
+site_fields_with address procedure lists =
     u64 when address
     ▸ λ return_address. procedure
     ▸ λ procedure. u32
@@ -325,7 +364,9 @@ site_with address procedure lists = as_ site_of_fields site_fields (
     ▸ λ flags. optional ImageIsCut 1 255 (formed (λ n. nat_le n 64) ∷ [])
     ▸ λ yield_values. counted (u8 when (formed (λ n. nat_le n 64) ∷ [])) (λ previous. width)
     ▸ λ results. lists procedure return_address
-    )
+
+abbrev pub site_with : List (Condition ℕ) → Format ℕ → (ℕ → ℕ → Format SiteLists) → Format SiteRow
+site_with address procedure lists = as_ site_of_fields site_fields (site_fields_with address procedure lists)
 
 abbrev pub site : ℕ → List ProcRow → Option SiteRow → Format SiteRow
 site code_length procedures previous =

@@ -11,7 +11,7 @@ use Rattle.cmm_image.specs.declared.rows.VariablePlace.{VariablePlace}
 use Rattle.cmm_image.specs.declared.rows.VariablePlace.TheVariants.{Dead, Slot, Register}
 use Rattle.cmm_image.specs.declared.rows.SiteRow.{SiteRow}
 use Rattle.cmm_format.specs.Formats.{Format, ◌when◌, ◌▸◌, as_, seen_as, given, counted, rows_behind}
-use Rattle.cmm_image.specs.ImageFormat.{FieldsWith, Tables, above, formed, in_code, lists_with, may_have_sites, one_if, procedure_of, procedure_with, site_with, u8, u32, variable}
+use Rattle.cmm_image.specs.ImageFormat.{Code, FieldsWith, SiteFieldsOf, Tables, above, formed, image_code, lies_in, lists_in, may_have_sites, one_if, procedure_in, procedure_of, site_fields, site_fields_with, site_of_fields, span, u8, u32, variable}
 use Rattle.cmm_image.specs.Places.{variable_place}
 
 -- ---- the bits of a site
@@ -60,11 +60,17 @@ addresses_of records = map (λ s. s.return_address) (flat_map (λ r. r.sites) re
 abbrev pub is_unlike : List ℕ → ℕ → Bool
 is_unlike others address = not (list_any (λ other. address == other) others)
 
--- a site of the procedure of a number, which has variables with these places, and n continuations; the sites of earlier procedures have these addresses
+-- a site of the procedure of a number, which has variables with these places, and n continuations, behind a site with this return address; the sites of earlier procedures have these
+-- addresses, and spans have a format of their own
+abbrev pub live_fields : {S : Type 0} → (Option S → Format S) → Code → ℕ → List ℕ → List VariablePlace → ℕ → Option ℕ → Format (SiteFieldsOf S)
+live_fields span code procedure earlier places continuations previous =
+    site_fields_with (above previous ∷ formed (is_unlike earlier) ∷ lies_in code ∷ []) (given procedure)
+    (λ procedure. lists_in (live_places places) span code continuations)
+
+-- one of an image
 abbrev pub live_site : ℕ → ℕ → List ℕ → List VariablePlace → ℕ → Option SiteRow → Format SiteRow
 live_site code_length procedure earlier places continuations previous =
-    site_with (above (option_map (λ s. s.return_address) previous) ∷ formed (is_unlike earlier) ∷ in_code code_length ∷ []) (given procedure)
-    (λ procedure. lists_with (live_places places) code_length continuations)
+    as_ site_of_fields site_fields (live_fields span (image_code code_length) procedure earlier places continuations (option_map (λ s. s.return_address) previous))
 
 -- ---- procedures
 
@@ -79,10 +85,13 @@ or_places [] qs = qs
 or_places (p ∷ ps) [] = p ∷ ps
 or_places (p ∷ ps) (q ∷ qs) = or_place p q ∷ or_places ps qs
 
--- the place of each variable that has these places: its own, or that at the first of these sites where it is live
+-- the place of each variable that has these places: its own, or that at the first of these sites where it is live; a site gives places to variables
+abbrev pub places_by : {T : Type 0} → (T → List VariablePlace) → List VariablePlace → List T → List VariablePlace
+places_by of places [] = places
+places_by of places (s ∷ ss) = places_by of (or_places places (of s)) ss
+
 abbrev pub places_with : List VariablePlace → List SiteRow → List VariablePlace
-places_with places [] = places
-places_with places (s ∷ ss) = places_with (or_places places s.variables) ss
+places_with places sites = places_by (λ s. s.variables) places sites
 
 -- the place of each variable: that at the first of these sites where it is live
 abbrev pub places_among : ℕ → List SiteRow → List VariablePlace
@@ -123,31 +132,45 @@ record_fields r = (
 abbrev pub variables_of : FieldsWith PlacedVariable → List PlacedVariable
 variables_of (code, (name, (frame, (return_at, (saved, (variables, (stack_labels, continuations))))))) = variables
 
-abbrev pub sites_of_record : ℕ → List ProcedureRecord → FieldsWith PlacedVariable → Format (List SiteRow)
-sites_of_record code_length before (code, (name, (frame, (return_at, (saved, (variables, (stack_labels, continuations))))))) =
-    counted (u32 when (formed (λ n. (n == 0) || may_have_sites frame return_at) ∷ [])) (live_site code_length (length before) (addresses_of before) (row_places variables) (length continuations))
+-- the sites of a procedure, which have a format by the places of its variables and the count of its continuations
+abbrev pub sites_with : {T : Type 0} → (List VariablePlace → ℕ → Option T → Format T) → FieldsWith PlacedVariable → Format (List T)
+sites_with site (code, (name, (frame, (return_at, (saved, (variables, (stack_labels, continuations))))))) =
+    counted (u32 when (formed (λ n. (n == 0) || may_have_sites frame return_at) ∷ [])) (site (row_places variables) (length continuations))
 
--- the byte at the end of a procedure: each variable with a place is live at some site, and the sites are as many as the header says
-abbrev pub record_end : ℕ → ℕ → List ProcedureRecord → List VariablePlace → List SiteRow → Format ℕ
-record_end procedures total before places sites =
+abbrev pub sites_of_record : ℕ → List ProcedureRecord → FieldsWith PlacedVariable → Format (List SiteRow)
+sites_of_record code_length before p = sites_with (live_site code_length (length before) (addresses_of before)) p
+
+-- the byte at the end of a procedure: each variable with a place is live at some site, and the sites are as many as there may be
+abbrev pub end_with : {T : Type 0} → (T → List VariablePlace) → (List T → Bool) → List VariablePlace → List T → Format ℕ
+end_with of are_all places sites =
     u8 when (
     formed (λ n. n == 0)
-    ∷ formed (λ n. are_among places (places_among (length places) sites))
-    ∷ formed (λ n. is_total procedures total before sites)
+    ∷ formed (λ n. are_among places (places_by of (replicate (length places) Dead) sites))
+    ∷ formed (λ n. are_all sites)
     ∷ []
     )
+
+abbrev pub record_end : ℕ → ℕ → List ProcedureRecord → List VariablePlace → List SiteRow → Format ℕ
+record_end procedures total before places sites = end_with (λ s. s.variables) (is_total procedures total before) places sites
 
 abbrev pub last_code : List ProcedureRecord → Option ℕ
 last_code [] = None
 last_code (r ∷ []) = Some r.row.code
 last_code (r ∷ s ∷ rs) = last_code (s ∷ rs)
 
--- the record of a procedure behind these, where there are so many procedures, and so many sites
+-- The table of a procedure's record in code, behind a procedure at an address: its sites have a format, by the places of its variables and the count of its continuations, each
+-- gives places to variables, and all together are as many as there may be. In an image code begins at its base, and spans have numbers; what holds a procedure before it is placed
+-- can take the same table over code from 0 on, and over other values of spans (`live_fields`).
+abbrev pub record_table : {T : Type 0} → Code → (List VariablePlace → ℕ → Option T → Format T) → (T → List VariablePlace) → (List T → Bool) → Option ℕ → Format (FieldsWith PlacedVariable × (List T × ℕ))
+record_table code site of are_all previous =
+    procedure_in placed_variable code previous
+    ▸ λ p. sites_with site p
+    ▸ λ sites. end_with of are_all (row_places (variables_of p)) sites
+
+-- the record of a procedure of an image behind these, where there are so many procedures, and so many sites
 abbrev pub procedure_record : ℕ → ℕ → ℕ → List ProcedureRecord → Format ProcedureRecord
 procedure_record code_length procedures total before = seen_as record_of record_fields (
-    procedure_with placed_variable code_length (last_code before)
-    ▸ λ p. sites_of_record code_length before p
-    ▸ λ sites. record_end procedures total before (row_places (variables_of p)) sites
+    record_table (image_code code_length) (live_site code_length (length before) (addresses_of before)) (λ s. s.variables) (is_total procedures total before) (last_code before)
     )
 
 -- ---- the tables
