@@ -15,7 +15,7 @@ use Rattle.rv_asm.specs.Parts.{Code}
 use Rattle.rv_asm.specs.Sizes.{all_longest, all_shortest}
 use Rattle.rv_asm.specs.declared.part.Label.{Label}
 use Rattle.rv_asm.specs.declared.part.Meaning.{Meaning}
-use Rattle.rv_asm.specs.declared.part.Meaning.TheVariants.{Inner}
+use Rattle.rv_asm.specs.declared.part.Meaning.TheVariants.{Inner, Outer}
 use Rattle.rv_asm.specs.declared.part.Part.{Part}
 use Rattle.rv_asm.specs.declared.part.Part.TheVariants.{Place, Single}
 use Rattle.rv_table.specs.declared.instruction.Instr.TheVariants.{Ebreak}
@@ -30,19 +30,22 @@ use Rattle.cmm_allocate.specs.declared.procedure.ProcedurePlaces.{ProcedurePlace
 use Rattle.cmm_emit.specs.declared.context.Context.{Context}
 use Rattle.cmm_emit.specs.Costs.{total_cost}
 use Rattle.cmm_emit.specs.LaidNodes.{AreLaid, AreUnplaced, HaveSites, IsOwn, PlacesOwn, StandsHere}
-use Rattle.cmm_emit.specs.Naming.{label_at}
+use Rattle.cmm_emit.specs.Naming.{has_named, label_at, named_at}
 use Rattle.cmm_emit.proofs.NodeLabels.{inner_target}
 use Rattle.cmm_emit.proofs.NodeSites.{site_closed, site_stays}
 use Rattle.cmm_emit.specs.Standing.{IsReady, SiteStands}
 use Rattle.cmm_emit.proofs.Belonging.{IsOne, there_at, entry_label, first_label_grows, length-entry_labels, one_of}
 use Rattle.cmm_emit.proofs.Numbering.{label_from, length-labels_from}
-use Rattle.cmm_emit.proofs.Owning.{length-with_own, own_before, own_behind, own_within}
+use Rattle.cmm_emit.proofs.Outlined.{IsOwn as IsOwnProcedure, data_label, procedure_label, register_label, registers_counted}
 use Rattle.cmm_emit.proofs.Ordering.{order_more, split}
 use Rattle.cmm_emit.specs.Contexts.{first_label}
-use Rattle.cmm_emit.specs.Labels.{labels_from}
+use Rattle.cmm_unit_code.specs.declared.unit_code.Reference.{Reference}
+use Rattle.cmm_unit_code.specs.declared.unit_code.Reference.TheVariants as reference
+use Rattle.cmm_unit_code.specs.declared.unit_code.Reference.TheVariants.{Procedure}
+use Rattle.cmm_emit.specs.Labels.{is_reached, labels_from}
 use Rattle.cmm_emit.specs.LaidProcedures.{CanAllBeLaid, HaveCodes, HaveLabels, tokens_of_first}
 use Rattle.cmm_emit.specs.Orders.{AreInOrder}
-use Rattle.cmm_emit.specs.Outlines.{IsOutline, first_own, number_symbols, symbol_count, symbol_meaning, with_own}
+use Rattle.cmm_emit.specs.Outlines.{IsOutline, first_own}
 use Rattle.cmm_emit.specs.declared.outline.Outline.{Outline}
 
 -- ---- numbers of labels
@@ -98,12 +101,12 @@ has_none (suc count) (suc k) = has_none count k
 -- ---- before a procedure is laid
 
 module _ (p : Program) (procs : List Proc) (graphs : List Graph) (found : List ProcedurePlaces) (o : Outline) (outline : IsOutline p procs graphs found o) (can : CanAllBeLaid p procs graphs found o)
-    (n : ℕ) (g : Graph) (one : IsOne p procs graphs found o n g) (labels : List Meaning) (have : HaveLabels p procs graphs n labels) where
+    (n : ℕ) (g : Graph) (one : IsOne p procs graphs found o n g) (labels : List Meaning) (have : HaveLabels procs graphs o n labels) where
   abbrev c : Context
   c = one.context
 
   abbrev base : ℕ
-  base = first_own p
+  base = first_own o
 
   abbrev first : ℕ
   first = first_label base procs graphs n
@@ -191,7 +194,7 @@ module _ (p : Program) (procs : List Proc) (graphs : List Graph) (found : List P
 
   -- ---- what nodes name is ready
 
-  inner_number : (l : Label) → symbol_count p ≤ l.number → l.number < length labels → IsInner labels l
+  inner_number : (l : Label) → length o.references ≤ l.number → l.number < length labels → IsInner labels l
   inner_number l least less = (less, have.inner l.number least less)
 
   node_inner : (k : ℕ) → k < node_count → IsInner labels (label_at c.nodes k)
@@ -241,53 +244,19 @@ module _ (p : Program) (procs : List Proc) (graphs : List Graph) (found : List P
       subst (IsInner labels) (sym same)
       (inner_number (label_at other.context.nodes first_node) (omega (arith, number, base_)) (omega (arith, number, follow, later, total, first_in)))
 
-  -- the symbols of all procedures
-  abbrev others : List Label
-  others = labels_from (number_symbols p) (length p.procs)
+  -- what is named elsewhere
+  symbol_meant : (l : Label) (r : Reference) → slice_get o.references l.number ≡ Some r → (l.number < length labels) × (get_or labels l.number (Inner false) ≡ Outer l.number (is_reached r))
+  symbol_meant l r there =
+      let known = have.symbols l.number r there in
+      (slice_get_within labels l.number (Outer l.number (is_reached r)) known, get_or_from_slice_get labels l.number (Outer l.number (is_reached r)) (Inner false) known)
 
-  fits : o.first + length o.entries ≤ length others
-  fits =
-      let inside = outline.within in
-      omega (arith, inside, entries_counted, length-labels_from (number_symbols p) (length p.procs))
-
-  symbol_target : (k : ℕ) → k < length others → IsTarget labels (label_at others k)
-  symbol_target k less =
-      let inside : k < length p.procs = omega (arith, less, length-labels_from (number_symbols p) (length p.procs)) in
-      let m = (label_at others k).number in
-      let number : m ≡ number_symbols p + k = ap (λ (z : Label). z.number) (label_from (number_symbols p) (length p.procs) k (record { number = 0 }) inside) in
-      let known = have.symbols m (omega (arith, number, inside)) in
-      let behind : nat_le (number_symbols p) m ≡ true = let least : number_symbols p ≤ m = omega (arith, number) in grind (arith, nat_tests, least) in
-      (slice_get_within labels m (symbol_meaning p m) known, ap is_target (get_or_from_slice_get labels m (symbol_meaning p m) (Inner false) known) ∙ behind)
-
-  procedure_target : (k : ℕ) → k < length o.targets.procedures → IsTarget labels (label_at o.targets.procedures k)
-  procedure_target k less = subst (λ (ls : List Label). IsTarget labels (label_at ls k)) (sym outline.procedures) (by (grind arith))
+  procedure_target : (k : ℕ) → has_named o.targets.procedures k ≡ true → IsTarget labels (named_at o.targets.procedures k)
+  procedure_target k has = by (procedure_label p procs graphs found o outline entries_counted k has)
     where
-      within_others : k < length others
-      within_others =
-          let same = ap (λ (ls : List Label). length ls) outline.procedures in
-          omega (arith, less, same, length-with_own o.first o.entries others fits)
-
-      own : o.first ≤ k → k < o.first + length o.entries → IsTarget labels (label_at (with_own o.first o.entries others) k)
-      own least inside =
-          let rest : ℕ = k - o.first in
-          let is : o.first + rest ≡ k = omega (arith, least) in
-          let in_own : rest < length o.entries = omega (arith, least, inside) in
-          subst (λ (m : ℕ). IsTarget labels (label_at (with_own o.first o.entries others) m)) is
-          (subst (IsTarget labels) (sym (own_within o.first o.entries others fits rest in_own)) (inner_target labels (label_at o.entries rest) (entry_inner rest in_own)))
-
-      then : o.first ≤ k → (k < o.first + length o.entries) ⊎ (o.first + length o.entries ≤ k) → IsTarget labels (label_at (with_own o.first o.entries others) k)
-      then least (inl inside) = own least inside
-      then least (inr far) = subst (IsTarget labels) (sym (own_behind o.first o.entries others fits k far)) (symbol_target k within_others)
-
-      by : (k < o.first) ⊎ (o.first ≤ k) → IsTarget labels (label_at (with_own o.first o.entries others) k)
-      by (inl before) = subst (IsTarget labels) (sym (own_before o.first o.entries others fits k before)) (symbol_target k within_others)
-      by (inr least) = then least (grind arith)
-
-  symbols_labels : (ls : List Label) (from count : ℕ) → ls ≡ labels_from from count → from + count ≤ symbol_count p → All (IsLabel labels) ls
-  symbols_labels ls from count is few = subst (All (IsLabel labels)) (sym is) (λ i d h.
-      let less : i < count = omega (arith, h, length-labels_from from count) in
-      let number = ap (λ (z : Label). z.number) (label_from from count i d less) in
-      omega (arith, number, less, few, far, within))
+      by : IsOwnProcedure p procs graphs found o outline entries_counted k (named_at o.targets.procedures k) ⊎ (slice_get o.references (named_at o.targets.procedures k).number ≡ Some (Procedure k)) →
+          IsTarget labels (named_at o.targets.procedures k)
+      by (inl own) = subst (IsTarget labels) (sym own.label) (inner_target labels (label_at o.entries own.number) (entry_inner own.number own.inside))
+      by (inr other) = let means = symbol_meant (named_at o.targets.procedures k) (Procedure k) other in (means.0, ap is_target means.1)
 
   pub is_ready : IsReady labels c o.targets
   is_ready = record {
@@ -298,13 +267,10 @@ module _ (p : Program) (procs : List Proc) (graphs : List Graph) (found : List P
     landings = landings_inner;
     landed = one.can.landed;
     nodes = nodes_inner;
-    procedures = λ i d h. subst (IsTarget labels) (get_or_default o.targets.procedures i (record { number = 0 }) d h) (procedure_target i h);
-    data_labels = symbols_labels o.targets.data_labels (length p.globals) (length p.labels) outline.data_labels (omega arith);
-    registers = symbols_labels o.targets.registers 0 (length p.globals) outline.registers (omega arith);
-    few_registers =
-        let few = can.registers in
-        let count = ap (λ (ls : List Label). length ls) outline.registers in
-        omega (arith, few, count, length-labels_from 0 (length p.globals));
+    procedures = procedure_target;
+    data_labels = λ k has. (symbol_meant (named_at o.targets.data_labels k) (reference.Label k) (data_label p procs graphs found o outline entries_counted k has)).0;
+    registers = λ k has. (symbol_meant (named_at o.targets.registers k) (reference.Register k) (register_label p procs graphs found o outline entries_counted k has)).0;
+    few_registers = let few = can.registers in omega (arith, few, registers_counted p procs graphs found o outline entries_counted);
     limit =
         let number = ap (λ (z : Label). z.number) outline.limit in
         inner_number o.targets.limit (omega (arith, number)) (omega (arith, number, far, within));
@@ -336,7 +302,7 @@ module _ (p : Program) (procs : List Proc) (graphs : List Graph) (found : List P
         by (inr (inl own, is)) = absurd (other (is_own_within m own))
         by (inr (inr behind, is)) = absurd (omega (arith, there, behind))
 
-    still_inner : (m : ℕ) → symbol_count p ≤ m → m < length new → IsTrue (is_inner (get_or new m (Inner false)))
+    still_inner : (m : ℕ) → length o.references ≤ m → m < length new → IsTrue (is_inner (get_or new m (Inner false)))
     still_inner m least less = by (places.each m)
       where
         by : (slice_get new m ≡ slice_get labels m) ⊎ ((IsOwn c m ⊎ (length labels ≤ m)) × (slice_get new m ≡ Some (Inner true))) → is_inner (get_or new m (Inner false)) ≡ true
@@ -346,12 +312,14 @@ module _ (p : Program) (procs : List Proc) (graphs : List Graph) (found : List P
             ap is_inner (get_or_from_slice_get new m (get_or labels m (Inner false)) (Inner false) (same ∙ there)) ∙ have.inner m least inside
         by (inr own) = ap is_inner (get_or_from_slice_get new m (Inner true) (Inner false) own.1)
 
-    pub labels_next : HaveLabels p procs graphs (n + 1) new
+    pub labels_next : HaveLabels procs graphs o (n + 1) new
     labels_next = record {
       count = let more = places.count in let count = have.count in omega (arith, more, count);
-      symbols = λ k less. stays k (omega (arith, less, far, within)) (λ own. omega (arith, own.0, less, far)) ∙ have.symbols k less;
-      limit = stays (symbol_count p) (omega (arith, far, within)) (λ own. omega (arith, own.0, far)) ∙ have.limit;
-      client = stays (symbol_count p + 1) (omega (arith, far, within)) (λ own. omega (arith, own.0, far)) ∙ have.client;
+      symbols = λ k r there.
+          let less = slice_get_within o.references k r there in
+          stays k (omega (arith, less, far, within)) (λ own. omega (arith, own.0, less, far)) ∙ have.symbols k r there;
+      limit = stays (length o.references) (omega (arith, far, within)) (λ own. omega (arith, own.0, far)) ∙ have.limit;
+      client = stays (length o.references + 1) (omega (arith, far, within)) (λ own. omega (arith, own.0, far)) ∙ have.client;
       inner = still_inner;
       fresh = λ k least less.
           stays k (let count = have.count in omega (arith, less, count)) (λ own. omega (arith, own.1, least, next)) ∙ have.fresh k (omega (arith, least, next)) less;

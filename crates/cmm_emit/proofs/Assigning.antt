@@ -20,9 +20,8 @@ use Rattle.cmm_emit.proofs.Operands.{operand_is_of}
 use Rattle.cmm_emit.specs.declared.context.Context.{Context}
 use Rattle.cmm_emit.specs.declared.context.Targets.{Targets}
 use Rattle.cmm_emit.specs.Costs.{rvalue_cost}
-use Rattle.cmm_emit.specs.Naming.{code_operand, has_both, has_operand, has_rvalue, label_at}
+use Rattle.cmm_emit.specs.Naming.{code_operand, has_both, has_operand, has_rvalue, named_at}
 use Rattle.cmm_emit.specs.Standing.{IsReady, PutsValue}
-use Rattle.std.proofs.lemmas.Bool.Decides.{nat_tests}
 
 module _ (labels : List Meaning) (p : Context) (y : Targets) (ready : IsReady labels p y) (x : Code) (from to : ℕ) (d : Destination) where
   pub copy_puts : (o : Operand) → IsTrue (has_operand p y o) → Copies (rvalue_cost p y (rvalue.Copy o)) (code_operand p y o) d x from to →
@@ -36,14 +35,14 @@ module _ (labels : List Meaning) (p : Context) (y : Targets) (ready : IsReady la
     ),
   )
 
-  pub register_puts : (r : Register) → IsTrue (has_rvalue p y (rvalue.Register r)) → let label = label_at y.registers r.number in
+  pub register_puts : (r : Register) → IsTrue (has_rvalue p y (rvalue.Register r)) → let label = named_at y.registers r.number in
       Leads 8 (CanCopyGlobal x.at (x.at label.number) d) (λ s t. PutsTo x.at d (global_at (x.at label.number) s) s t) x from to →
       PutsValue p y (rvalue.Register r) d x from to
   register_puts r has does = (
     does.quiet,
-    λ s c l f q is-x of. let label = label_at y.registers r.number in (
+    λ s c l f q is-x of. let label = named_at y.registers r.number in (
       label,
-      of.registers r.number (grind (arith, nat_tests, has)),
+      of.registers r.number has,
       subst (λ (z : Code). Leads 8 (CanCopyGlobal z.at (z.at label.number) d) (λ s t. PutsTo z.at d (global_at (z.at label.number) s) s t) z from to) is-x does,
     ),
   )

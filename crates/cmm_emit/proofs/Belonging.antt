@@ -75,7 +75,7 @@ pub record IsOne (p : Program) (procs : List Proc) (graphs : List Graph) (found 
   pub is_found : slice_get found q ≡ Some places
   pub context : Context
   pub is_context : slice_get o.contexts q ≡ Some context
-  pub made : IsMadeFor procedure g places (first_label (first_own p) procs graphs q) context
+  pub made : IsMadeFor procedure g places (first_label (first_own o) procs graphs q) context
   pub can : CanBeLaid o.targets context g
 
 -- by its context

@@ -21,7 +21,7 @@ use Rattle.cmm_effects.specs.Requests.{AsksFor}
 use Rattle.cmm_emit.specs.declared.context.Context.{Context}
 use Rattle.cmm_emit.proofs.Belonging.{IsOne, one_with, share_at, there_at}
 use Rattle.cmm_emit.specs.LaidProcedures.{CanAllBeLaidIn, HaveCodes, HaveLabels, IsWhole, tokens_of_first}
-use Rattle.cmm_emit.specs.Outlines.{IsOutline, IsOutlineIn, own, share, symbol_count}
+use Rattle.cmm_emit.specs.Outlines.{IsOutline, IsOutlineIn, own, share}
 use Rattle.cmm_emit.specs.declared.outline.Outline.{Outline}
 
 -- an element that was read of a list is there in an equal one
@@ -64,12 +64,12 @@ module _ (p : Program) (procs : List Proc) (graphs : List Graph) (o : Outline) w
   }
 
   module _ (found : List ProcedurePlaces) (outline : IsOutline p procs graphs found o) where
-    module _ (labels : List Meaning) (have : HaveLabels p procs graphs (length o.contexts) labels) where
+    module _ (labels : List Meaning) (have : HaveLabels procs graphs o (length o.contexts) labels) where
       abbrev limit : ℕ
-      limit = symbol_count p
+      limit = length o.references
 
       abbrev client : ℕ
-      client = symbol_count p + 1
+      client = length o.references + 1
 
       -- once the limit has its place, the call of the client has none yet
       pub client_waits : (new : List Meaning) → new ≡ set labels o.targets.limit.number (Inner true) → slice_get new o.targets.client.number ≡ Some (Inner false)
@@ -91,27 +91,28 @@ module _ (p : Program) (procs : List Proc) (graphs : List Graph) (o : Outline) w
           also ∙ (ap (λ (n : ℕ). set mid n (Inner true)) (ap (λ (z : Label). z.number) outline.client)
           ∙ ap (λ (ms : List Meaning). set ms client (Inner true)) (is ∙ ap (λ (n : ℕ). set labels n (Inner true)) (ap (λ (z : Label). z.number) outline.limit)))
 
-      symbols_stay : (k : ℕ) → k < symbol_count p → slice_get placed k ≡ slice_get labels k
+      symbols_stay : (k : ℕ) → k < length o.references → slice_get placed k ≡ slice_get labels k
       symbols_stay k inside =
           set_elsewhere (set labels limit (Inner true)) client k (Inner true) (λ e. omega (arith, e, inside)) ∙ set_elsewhere labels limit k (Inner true) (λ e. omega (arith, e, inside))
 
-      still_inner : (k : ℕ) → symbol_count p ≤ k → k < length labels → IsTrue (is_inner (get_or placed k (Inner false)))
+      still_inner : (k : ℕ) → length o.references ≤ k → k < length labels → IsTrue (is_inner (get_or placed k (Inner false)))
       still_inner k least inside =
           let counted = length-set labels limit (Inner true) in
           set_inner (set labels limit (Inner true)) client k (omega (arith, counted, slice_get_within labels client (Inner false) have.client)) (omega (arith, counted, inside))
           (set_inner labels limit k (slice_get_within labels limit (Inner false) have.limit) inside (have.inner k least inside))
 
-    pub is_whole : (labels mid new : List Meaning) (front middle parts : List Part) → HaveLabels p procs graphs (length o.contexts) labels → HaveCodes procs graphs o (length o.contexts) front →
+    pub is_whole : (labels mid new : List Meaning) (front middle parts : List Part) → HaveLabels procs graphs o (length o.contexts) labels → HaveCodes procs graphs o (length o.contexts) front →
         mid ≡ set labels o.targets.limit.number (Inner true) → new ≡ set mid o.targets.client.number (Inner true) →
         (back : List Part) × (middle ≡ front ++ Place o.targets.limit ∷ back) → Appends middle parts (λ x from to. Unit {0}) →
         Codes middle o.targets.limit (λ x from to. AsksFor 1 (λ t. StackLimit) x from) → Codes parts o.targets.client (λ x from to. AsksFor 1 (λ t. Yield) x from) →
-        all_longest middle ≤ all_longest front + 8 → all_longest parts ≤ all_longest middle + 8 → IsWhole p procs graphs o new parts
+        all_longest middle ≤ all_longest front + 8 → all_longest parts ≤ all_longest middle + 8 → IsWhole procs graphs o new parts
     is_whole labels mid new front middle parts have codes is also behind more limits calls few few_more =
         let now = both_placed labels have mid new is also in
         let counted = placed_counted labels have in
         record {
           count = let size = ap (λ (ms : List Meaning). length ms) now in let count = have.count in omega (arith, size, counted, count);
-          symbols = λ k inside. ap (λ (ms : List Meaning). slice_get ms k) now ∙ (symbols_stay labels have k inside ∙ have.symbols k inside);
+          symbols = λ k r there.
+              ap (λ (ms : List Meaning). slice_get ms k) now ∙ (symbols_stay labels have k (slice_get_within o.references k r there) ∙ have.symbols k r there);
           inner = λ k least inside.
               let within : k < length labels = let size = ap (λ (ms : List Meaning). length ms) now in omega (arith, inside, size, counted) in
               subst (λ (ms : List Meaning). IsTrue (is_inner (get_or ms k (Inner false)))) (sym now) (still_inner labels have k least within);

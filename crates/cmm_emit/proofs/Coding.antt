@@ -39,27 +39,30 @@ use Rattle.cmm_image_machine.specs.Machine.{Launch, map_of}
 use Rattle.cmm_effects.specs.Requests.{AsksFor}
 use Rattle.cmm_emit_laws.specs.Finished.{Finished, code_of}
 use Rattle.cmm_emit_laws.specs.Placing.{FinishedCodeStands}
-use Rattle.cmm_unit_code.specs.Joined.{symbol_value}
+use Rattle.cmm_unit_code.specs.Joined.{reference_value}
 use Rattle.cmm_unit_code.specs.Texts.{address_in}
 use Rattle.cmm_unit_code.specs.declared.text.Text.{Text}
+use Rattle.cmm_unit_code.specs.declared.unit_code.Reference.{Reference}
+use Rattle.cmm_unit_code.specs.declared.unit_code.Reference.TheVariants.{Register, Label as Named, Procedure}
 use Rattle.cmm_unit_code.specs.declared.unit_code.UnitCode.{UnitCode}
 use Rattle.cmm_allocate.specs.declared.procedure.ProcedurePlaces.{ProcedurePlaces}
 use Rattle.cmm_allocate.specs.Compiling.{compiled, no_frame, no_place}
 use Rattle.cmm_allocate.specs.Placing.{placement_rows}
 use Rattle.cmm_emit.specs.declared.context.Context.{Context}
 use Rattle.cmm_emit.specs.declared.context.Targets.{Targets}
-use Rattle.cmm_emit.specs.Naming.{label_at, local_number}
+use Rattle.cmm_emit.specs.Naming.{has_named, label_at, local_number, named_at}
 use Rattle.cmm_emit.specs.Standing.{IsContextOf}
 use Rattle.cmm_emit.proofs.Addresses.{place_fine}
 use Rattle.cmm_emit.proofs.Belonging.{IsOne, entry_label, first_label_grows, length-entry_labels, one_of, share_at, there_at}
 use Rattle.cmm_emit.proofs.Numbering.{label_from, length-labels_from}
-use Rattle.cmm_emit.proofs.Owning.{length-with_own, own_before, own_behind, own_within}
+use Rattle.cmm_emit.proofs.Outlined.{IsIn, IsOwn, data_label, procedure_label, register_label}
+use Rattle.cmm_emit.proofs.Symbolled.{references_in}
 use Rattle.cmm_emit.proofs.Standing.{HasProcedure, IsJoint, IsLaid, Laid, StandAt, unit_of, value_in}
-use Rattle.cmm_emit.proofs.Symbols.{AreMeant, fixes_reached, inner_stands, symbol_stands, targets_aligned}
+use Rattle.cmm_emit.proofs.Meanings.{AreMeant, fixes_reached, inner_stands, symbol_stands, targets_aligned}
 use Rattle.cmm_emit.specs.Contexts.{first_label}
 use Rattle.cmm_emit.specs.Finishing.{AreFinished}
-use Rattle.cmm_emit.specs.Labels.{labels_from}
-use Rattle.cmm_emit.specs.Outlines.{first_own, number_symbols, own, symbol_count, with_own}
+use Rattle.cmm_emit.specs.Labels.{is_reached}
+use Rattle.cmm_emit.specs.Outlines.{first_own, own}
 use Rattle.cmm_emit.specs.declared.outline.Outline.{Outline}
 use Rattle.rv_table.specs.Machine.{Region}
 use Rattle.cmm_abi.specs.Regions.{global_address}
@@ -117,43 +120,19 @@ are_landings y at q k (l ∷ ls) each =
 mod_small : (a : ℕ) → a < 2 ^ 64 → a % 2 ^ 64 ≡ a
 mod_small a less = omega (arith, less)
 
--- ---- what symbols stand for
-
--- registers come first
-of_register : (registers : ℕ) (addresses procedures : List ℕ) (n : ℕ) → n < registers → symbol_value registers addresses procedures n ≡ 448 + 8 * n
-of_register registers addresses procedures n less =
-    let test : nat_lt n registers ≡ true = grind (arith, nat_tests, less) in
-    ap (λ (b : Bool). elim b as (λ _. ℕ) [ true ↦ 448 + 8 * n | false ↦ get_or (addresses ++ procedures) (n - registers) 0 ]) test
-
--- then data labels and procedures
-behind_registers : (registers : ℕ) (addresses procedures : List ℕ) (n k : ℕ) → n ≡ registers + k → symbol_value registers addresses procedures n ≡ get_or (addresses ++ procedures) k 0
-behind_registers registers addresses procedures n k is =
-    let past : nat_lt n registers ≡ false = grind (arith, nat_tests, is) in
-    let rest : n - registers ≡ k = omega (arith, is) in
-    ap (λ (b : Bool). elim b as (λ _. ℕ) [ true ↦ 448 + 8 * n | false ↦ get_or (addresses ++ procedures) (n - registers) 0 ]) past
-    ∙ ap (λ (m : ℕ). get_or (addresses ++ procedures) m 0) rest
-
-in_front : (xs ys : List ℕ) (k : ℕ) → k < length xs → get_or (xs ++ ys) k 0 ≡ get_or xs k 0
-in_front [] ys k less = absurd (omega (arith, less))
-in_front (x ∷ xs) ys zero less = refl
-in_front (x ∷ xs) ys (suc k) less = in_front xs ys k (omega (arith, less))
-
-in_back : (xs ys : List ℕ) (k : ℕ) → get_or (xs ++ ys) (length xs + k) 0 ≡ get_or ys k 0
-in_back [] ys k = let e : 0 + k ≡ k = omega arith in ap (λ (m : ℕ). get_or ys m 0) e
-in_back (x ∷ xs) ys k = let e : suc (length xs) + k ≡ suc (length xs + k) = omega arith in rw e (in_back xs ys k)
-
 -- ---- a text
 
 module _ (p : Program) (graphs : List Graph) (found : List ProcedurePlaces) (addresses : List ℕ) (t : Text) (known : IsJoint p graphs found addresses t) where
-  abbrev pub value : ℕ → ℕ
-  value = value_in p addresses t
+  -- what the symbols of some code stand for
+  abbrev pub value : UnitCode → ℕ → ℕ
+  value = value_in addresses t
 
   abbrev pub unit : ℕ → Laid
   unit q = unit_of known.laid q
 
   -- what the labels of a procedure's unit stand for
   abbrev pub at : ℕ → ℕ → ℕ
-  at q = address_of (unit q).labels (unit q).places (unit q).at value
+  at q = address_of (unit q).labels (unit q).places (unit q).at (value (unit q).code)
 
   abbrev context_in : ℕ → Option Context
   context_in q = slice_get (unit q).outline.contexts (q - (unit q).outline.first)
@@ -180,18 +159,6 @@ module _ (p : Program) (graphs : List Graph) (found : List ProcedurePlaces) (add
 
   -- ---- what symbols stand for
 
-  addresses_counted : length addresses ≡ length p.labels
-  addresses_counted = ap (λ (ns : List ℕ). length ns) known.is_addresses ∙ length-map p.labels (label_address p)
-
-  pub of_procedure : (n k : ℕ) → n ≡ number_symbols p + k → value n ≡ get_or t.procedures k 0
-  of_procedure n k is =
-      let later : n ≡ length p.globals + (length addresses + k) = omega (arith, is, addresses_counted) in
-      behind_registers (length p.globals) addresses t.procedures n (length addresses + k) later ∙ in_back addresses t.procedures k
-
-  of_label : (n k : ℕ) → n ≡ length p.globals + k → k < length p.labels → value n ≡ get_or addresses k 0
-  of_label n k is less =
-      behind_registers (length p.globals) addresses t.procedures n k is ∙ in_front addresses t.procedures k (omega (arith, less, addresses_counted))
-
   address_low : (m : ℕ) → get_or addresses m 0 + 2048 < 2 ^ 31
   address_low m = by (nat_lt m (length addresses)) refl
     where
@@ -207,29 +174,29 @@ module _ (p : Program) (graphs : List Graph) (found : List ProcedurePlaces) (add
           let none = get_or_past addresses m 0 out in
           omega (arith, none)
 
-  pub small : (n : ℕ) → value n + 2048 < 2 ^ 31
-  small n = by (grind arith)
-    where
-      by : (n < length p.globals) ⊎ (length p.globals ≤ n) → value n + 2048 < 2 ^ 31
-      by (inl less) = let few = known.range.registers in let is = of_register (length p.globals) addresses t.procedures n less in omega (arith, is, few, less)
-      by (inr far) = by_rest (grind arith)
-        where
-          by_rest : (n < number_symbols p) ⊎ (number_symbols p ≤ n) → value n + 2048 < 2 ^ 31
-          by_rest (inl less) =
-              let k = n - length p.globals in
-              let is = of_label n k (omega (arith, far)) (omega (arith, far, less)) in
-              let low = address_low k in
-              omega (arith, is, low)
-          by_rest (inr beyond) =
-              let k = n - number_symbols p in
-              let is = of_procedure n k (omega (arith, beyond)) in
-              let low = known.procedures_low k in
-              omega (arith, is, low)
+  reference_low : (r : Reference) → IsIn p r → reference_value addresses t.procedures r + 2048 < 2 ^ 31
+  reference_low (Register n) less = let few = known.range.registers in omega (arith, few, less)
+  reference_low (Named n) less = address_low n
+  reference_low (Procedure n) less = let low = known.procedures_low n in omega (arith, low)
 
-  pub aligned : (n : ℕ) → number_symbols p ≤ n → value n % 4 ≡ 0
-  aligned n far =
-      let k = n - number_symbols p in
-      subst (λ (a : ℕ). a % 4 ≡ 0) (sym (of_procedure n k (omega (arith, far)))) (known.procedures_aligned k)
+  pub small : (u : UnitCode) → ((k : ℕ) (r : Reference) → slice_get u.references k ≡ Some r → IsIn p r) → (n : ℕ) → value u n + 2048 < 2 ^ 31
+  small u inside n = by (slice_get u.references n) refl
+    where
+      by : (o : Option Reference) → slice_get u.references n ≡ o → elim o as (λ _. ℕ) [ Some r ↦ reference_value addresses t.procedures r | None ↦ 0 ] + 2048 < 2 ^ 31
+      by (Some r) there = reference_low r (inside n r there)
+      by None past = omega arith
+
+  -- a symbol stands for what it names
+  pub stands_for_reference : (u : UnitCode) (k : ℕ) (r : Reference) → slice_get u.references k ≡ Some r → value u k ≡ reference_value addresses t.procedures r
+  stands_for_reference u k r there = ap (λ (o : Option Reference). elim o as (λ _. ℕ) [ Some z ↦ reference_value addresses t.procedures z | None ↦ 0 ]) there
+
+  reached_aligned : (r : Reference) → is_reached r ≡ true → reference_value addresses t.procedures r % 4 ≡ 0
+  reached_aligned (Register n) is = absurd (cc)
+  reached_aligned (Named n) is = absurd (cc)
+  reached_aligned (Procedure n) is = known.procedures_aligned n
+
+  pub aligned : (u : UnitCode) (k : ℕ) (r : Reference) → slice_get u.references k ≡ Some r → is_reached r ≡ true → value u k % 4 ≡ 0
+  aligned u k r there is = subst (λ (a : ℕ). a % 4 ≡ 0) (sym (stands_for_reference u k r there)) (reached_aligned r is)
 
   -- ---- a unit
 
@@ -238,18 +205,26 @@ module _ (p : Program) (graphs : List Graph) (found : List ProcedurePlaces) (add
     o = x.outline
 
     abbrev x_at : ℕ → ℕ
-    x_at = address_of x.labels x.places x.at value
+    x_at = address_of x.labels x.places x.at (value x.code)
 
-    pub meant : AreMeant p x.labels
-    meant = record { symbols = is.whole.symbols; inner = is.whole.inner }
+    pub meant : AreMeant x.code.references x.labels
+    meant =
+        subst (λ (rs : List Reference). AreMeant rs x.labels) (sym is.references)
+        (record { symbols = is.whole.symbols; inner = is.whole.inner })
+
+    -- it names what the program has
+    pub named_in : (k : ℕ) (r : Reference) → slice_get x.code.references k ≡ Some r → IsIn p r
+    named_in k r there =
+        references_in p (own o graphs) o.first (length (own o p.procs)) k r
+        (ap (λ (rs : List Reference). slice_get rs k) (sym (is.references ∙ (is.outline.references ∙ is.outline.are_symbols.references))) ∙ there)
 
     low : x.at + length x.code.code ≤ 2 ^ 30
     low = let within = is.stands.within in let room = known.room in omega (arith, within, room)
 
     -- a label behind the symbols
-    pub inner_fine : (l : Label) → symbol_count p ≤ l.number → (x_at l.number ≡ slice_index x.places l.number + x.at) × ((x_at l.number % 4 ≡ 0) × (x_at l.number ≤ 2 ^ 30))
+    pub inner_fine : (l : Label) → length o.references ≤ l.number → (x_at l.number ≡ slice_index x.places l.number + x.at) × ((x_at l.number % 4 ≡ 0) × (x_at l.number ≤ 2 ^ 30))
     inner_fine l far =
-        let same = inner_stands p x.labels meant x.places x.at value l.number far in
+        let same = inner_stands x.code.references x.labels meant x.places x.at (value x.code) l.number (subst (λ (rs : List Reference). length rs ≤ l.number) (sym is.references) far) in
         let fine = place_fine x.labels x.parts (length x.code.code) x.places is.done.have l.number in
         let four = is.stands.aligned in
         let here = fine.0 in
@@ -263,35 +238,18 @@ module _ (p : Program) (graphs : List Graph) (found : List ProcedurePlaces) (add
         let procs = is.can.graph_count in
         ap (λ (ls : List Label). length ls) is.outline.entries ∙ length-entry_labels o.contexts (own o graphs) (omega (arith, contexts, procs))
 
-    others_counted : length (labels_from (number_symbols p) (length p.procs)) ≡ length p.procs
-    others_counted = length-labels_from (number_symbols p) (length p.procs)
-
-    pub fits : o.first + length o.entries ≤ length (labels_from (number_symbols p) (length p.procs))
-    fits =
-        let within = is.outline.within in
-        let contexts = is.outline.contexts.count in
-        omega (arith, within, contexts, entries_counted, others_counted)
-
-    pub targets_counted : length o.targets.procedures ≡ length p.procs
-    targets_counted =
-        ap (λ (ls : List Label). length ls) is.outline.procedures
-        ∙ (length-with_own o.first o.entries (labels_from (number_symbols p) (length p.procs)) fits ∙ others_counted)
-
-    registers_counted : length o.targets.registers ≡ length p.globals
-    registers_counted = ap (λ (ls : List Label). length ls) is.outline.registers ∙ length-labels_from 0 (length p.globals)
-
-    data_counted : length o.targets.data_labels ≡ length p.labels
-    data_counted = ap (λ (ls : List Label). length ls) is.outline.data_labels ∙ length-labels_from (length p.globals) (length p.labels)
+    abbrev all_entries : length o.entries ≡ length (own o p.procs)
+    all_entries = entries_counted ∙ is.outline.contexts.count
 
     module _ (k : ℕ) (g : Graph) (one : IsOne p (own o p.procs) (own o graphs) (own o found) o k g) where
       abbrev c : Context
       c = one.context
 
       abbrev first : ℕ
-      first = first_label (first_own p) (own o p.procs) (own o graphs) k
+      first = first_label (first_own o) (own o p.procs) (own o graphs) k
 
-      first_far : symbol_count p ≤ first
-      first_far = let grows = first_label_grows (first_own p) (own o p.procs) (own o graphs) k in omega (arith, grows)
+      first_far : length o.references ≤ first
+      first_far = let grows = first_label_grows (first_own o) (own o p.procs) (own o graphs) k in omega (arith, grows)
 
       pub nodes_counted : length c.nodes ≡ length g.nodes
       nodes_counted = ap (λ (ls : List Label). length ls) one.made.nodes ∙ length-labels_from first (length g.nodes)
@@ -302,14 +260,14 @@ module _ (p : Program) (graphs : List Graph) (found : List ProcedurePlaces) (add
       pub landings_counted : length c.landings ≡ length g.continuations
       landings_counted = ap (λ (ls : List Label). length ls) one.made.landings ∙ length-map g.continuations (λ (n : NodeId). label_at c.nodes n.number)
 
-      node_far : (m : ℕ) → m < length g.nodes → symbol_count p ≤ (label_at c.nodes m).number
+      node_far : (m : ℕ) → m < length g.nodes → length o.references ≤ (label_at c.nodes m).number
       node_far m less =
           let label : label_at c.nodes m ≡ record { number = first + m } =
           ap (λ (ls : List Label). label_at ls m) one.made.nodes ∙ label_from first (length g.nodes) m (record { number = 0 }) less in
           let number = ap (λ (z : Label). z.number) label in
           omega (arith, number, first_far)
 
-      site_far : (m : ℕ) → m < length one.procedure.sites → symbol_count p ≤ (label_at c.sites m).number
+      site_far : (m : ℕ) → m < length one.procedure.sites → length o.references ≤ (label_at c.sites m).number
       site_far m less =
           let label : label_at c.sites m ≡ record { number = first + length g.nodes + m } =
           ap (λ (ls : List Label). label_at ls m) one.made.sites ∙ label_from (first + length g.nodes) (length one.procedure.sites) m (record { number = 0 }) less in
@@ -362,54 +320,35 @@ module _ (p : Program) (graphs : List Graph) (found : List ProcedurePlaces) (add
         let g = there_at (own o graphs) k (omega (arith, less, contexts, count)) in
         (g.0, one_of p (own o p.procs) (own o graphs) (own o found) o is.outline is.can k g.0 g.1)
 
-    symbol_number : (k : ℕ) → k < length p.procs → x_at (label_at (labels_from (number_symbols p) (length p.procs)) k).number ≡ get_or t.procedures k 0
-    symbol_number k less =
-        let label = label_from (number_symbols p) (length p.procs) k (record { number = 0 }) less in
-        ap (λ (z : Label). x_at z.number) label
-        ∙ (symbol_stands p x.labels meant x.places x.at value (number_symbols p + k) (omega (arith, less)) ∙ of_procedure (number_symbols p + k) k refl)
+    symbol_number : (l : Label) (r : Reference) → slice_get o.references l.number ≡ Some r → x_at l.number ≡ reference_value addresses t.procedures r
+    symbol_number l r there =
+        let here : slice_get x.code.references l.number ≡ Some r = ap (λ (rs : List Reference). slice_get rs l.number) is.references ∙ there in
+        symbol_stands x.code.references x.labels meant x.places x.at (value x.code) l.number r here ∙ stands_for_reference x.code l.number r here
 
     -- each stands for the address of its procedure
-    pub target_is : (k : ℕ) → k < length p.procs → x_at (label_at o.targets.procedures k).number ≡ get_or t.procedures k 0
-    target_is k less = by (grind arith)
+    pub target_is : (k : ℕ) → has_named o.targets.procedures k ≡ true → x_at (named_at o.targets.procedures k).number ≡ get_or t.procedures k 0
+    target_is k has = by (procedure_label p (own o p.procs) (own o graphs) (own o found) o is.outline all_entries k has)
       where
-        others : List Label
-        others = labels_from (number_symbols p) (length p.procs)
+        l : Label
+        l = named_at o.targets.procedures k
 
-        so : (l : Label) → label_at (with_own o.first o.entries others) k ≡ l → x_at l.number ≡ get_or t.procedures k 0 → x_at (label_at o.targets.procedures k).number ≡ get_or t.procedures k 0
-        so l label number =
-            ap (λ (ls : List Label). x_at (label_at ls k).number) is.outline.procedures ∙ (ap (λ (z : Label). x_at z.number) label ∙ number)
+        by : IsOwn p (own o p.procs) (own o graphs) (own o found) o is.outline all_entries k l ⊎ (slice_get o.references l.number ≡ Some (Procedure k)) → x_at l.number ≡ get_or t.procedures k 0
+        by (inl mine) =
+            let j = mine.number in
+            let one = one_at j (let inside = mine.inside in omega (arith, inside, entries_counted)) in
+            ap (λ (z : Label). x_at z.number) mine.label
+            ∙ (ap (λ (z : Label). x_at z.number) (entry_same j one.0 one.1) ∙ (sym (entry_is j one.0 one.1) ∙ ap (λ (m : ℕ). get_or t.procedures m 0) mine.is))
+        by (inr other) = symbol_number l (Procedure k) other
 
-        by : (k < o.first) ⊎ ((o.first ≤ k) × (k < o.first + length o.entries) ⊎ (o.first + length o.entries ≤ k)) → x_at (label_at o.targets.procedures k).number ≡ get_or t.procedures k 0
-        by (inl before) = so (label_at others k) (own_before o.first o.entries others fits k before) (symbol_number k less)
-        by (inr (inl within)) =
-            let j = k - o.first in
-            let least = within.0 in
-            let most = within.1 in
-            let number : o.first + j ≡ k = omega (arith, least) in
-            let inside : j < length o.entries = omega (arith, least, most) in
-            let one = one_at j (omega (arith, inside, entries_counted)) in
-            so (label_at o.entries j) (ap (λ (m : ℕ). label_at (with_own o.first o.entries others) m) (sym number) ∙ own_within o.first o.entries others fits j inside)
-            (ap (λ (l : Label). x_at l.number) (entry_same j one.0 one.1) ∙ (sym (entry_is j one.0 one.1) ∙ ap (λ (m : ℕ). get_or t.procedures m 0) number))
-        by (inr (inr behind)) = so (label_at others k) (own_behind o.first o.entries others fits k behind) (symbol_number k less)
+    pub data_value : (k : ℕ) → has_named o.targets.data_labels k ≡ true → x_at (named_at o.targets.data_labels k).number ≡ get_or (label_addresses p) k 0
+    data_value k has =
+        symbol_number (named_at o.targets.data_labels k) (Named k) (data_label p (own o p.procs) (own o graphs) (own o found) o is.outline all_entries k has)
+        ∙ ap (λ (ns : List ℕ). get_or ns k 0) known.is_addresses
 
-    pub data_value : (k : ℕ) → k < length o.targets.data_labels → x_at (label_at o.targets.data_labels k).number ≡ get_or (label_addresses p) k 0
-    data_value k less =
-        let n = length p.globals in
-        let inside : k < length p.labels = omega (arith, less, data_counted) in
-        let label : label_at o.targets.data_labels k ≡ record { number = n + k } =
-        ap (λ (ls : List Label). label_at ls k) is.outline.data_labels ∙ label_from n (length p.labels) k (record { number = 0 }) inside in
-        ap (λ (z : Label). x_at z.number) label
-        ∙ (symbol_stands p x.labels meant x.places x.at value (n + k) (omega (arith, inside)) ∙ (of_label (n + k) k refl inside ∙ ap (λ (ns : List ℕ). get_or ns k 0) known.is_addresses))
-
-    pub register_value : (r : ℕ) → r < length o.targets.registers → (w : Region) → w.address + x_at (label_at o.targets.registers r).number ≡ global_address w r
-    register_value r less w =
-        let inside : r < length p.globals = omega (arith, less, registers_counted) in
-        let label : label_at o.targets.registers r ≡ record { number = 0 + r } =
-        ap (λ (ls : List Label). label_at ls r) is.outline.registers ∙ label_from 0 (length p.globals) r (record { number = 0 }) inside in
-        let number : x_at (label_at o.targets.registers r).number ≡ value (0 + r) =
-        ap (λ (z : Label). x_at z.number) label ∙ symbol_stands p x.labels meant x.places x.at value (0 + r) (omega (arith, inside)) in
-        let same = of_register (length p.globals) addresses t.procedures (0 + r) (omega (arith, inside)) in
-        omega (arith, number, same)
+    pub register_value : (r : ℕ) → has_named o.targets.registers r ≡ true → (w : Region) → w.address + x_at (named_at o.targets.registers r).number ≡ global_address w r
+    register_value r has w =
+        let number = symbol_number (named_at o.targets.registers r) (Register r) (register_label p (own o p.procs) (own o graphs) (own o found) o is.outline all_entries r has) in
+        omega (arith, number)
 
   -- ---- a procedure
 
@@ -521,14 +460,15 @@ module _ (s : Setting) (graphs : List Graph) (found : List ProcedurePlaces) (add
 
   -- finished bytes of the text stand in the image
   pub stand_at : (q : ℕ) (labels : List Meaning) (parts : List Part) (places : List ℕ) (up : ℕ) (u : UnitCode) → AreFinished labels parts places u →
-      StandAt (value_in s.program addresses t) t up u → All (GoesToCode labels (value_in s.program addresses t)) parts → (g : Finished) →
-      g.labels q ≡ address_of labels places up (value_in s.program addresses t) → Stand (code_of l g q) parts up (up + length u.code)
-  stand_at q labels parts places up u done at targets g is_labels =
+      StandAt (value_in addresses t u) t up u → All (GoesToCode labels (value_in addresses t u)) parts →
+      ((k : ℕ) (r : Reference) → slice_get u.references k ≡ Some r → IsIn s.program r) → (g : Finished) →
+      g.labels q ≡ address_of labels places up (value_in addresses t u) → Stand (code_of l g q) parts up (up + length u.code)
+  stand_at q labels parts places up u done at targets inside g is_labels =
       let base : 0 + up ≡ up = omega arith in
-      let value = value_in s.program addresses t in
+      let value = value_in addresses t u in
       let room : up + length u.code ≤ 2 ^ 30 = let within = at.within in let few = known.room in omega (arith, within, few) in
       let near : up < 2 ^ 63 = omega (arith, room) in
-      let reached = fixes_reached value up (length u.code) 0 u.fixes (small s.program graphs found addresses t known) room done.apart in
+      let reached = fixes_reached value up (length u.code) 0 u.fixes (small s.program graphs found addresses t known u inside) room done.apart in
       subst (λ (a : ℕ). Stand (code_of l g q) parts a (a + length u.code)) base
       (stands l g q labels parts 0 up u.code places u.fixes value done.runs (record {
         aligned = at.aligned;
@@ -549,8 +489,9 @@ module _ (s : Setting) (graphs : List Graph) (found : List ProcedurePlaces) (add
     pub parts_stand : Stand x this_unit.parts this_unit.at (this_unit.at + length this_unit.code.code)
     parts_stand =
         stand_at q this_unit.labels this_unit.parts this_unit.places this_unit.at this_unit.code this.is.done this.is.stands
-        (targets_aligned s.program this_unit.labels (meant s.program graphs found addresses t known this_unit this.is) (value_in s.program addresses t) (aligned s.program graphs found addresses t known)
-        this_unit.parts this.is.done.fit) f refl
+        (targets_aligned this_unit.code.references this_unit.labels (meant s.program graphs found addresses t known this_unit this.is) (value_in addresses t this_unit.code)
+        (aligned s.program graphs found addresses t known this_unit.code) this_unit.parts this.is.done.fit)
+        (named_in s.program graphs found addresses t known this_unit this.is) f refl
 
     -- what stands in the front of the parts
     pub does : {So : Code → ℕ → ℕ → Type 0} (label : Label) → Codes this.is.whole.front label So → (end : ℕ) × So x (f.labels q label.number) end
@@ -578,11 +519,8 @@ module _ (s : Setting) (graphs : List Graph) (found : List ProcedurePlaces) (add
     abbrev y : Targets
     y = this_unit.outline.targets
 
-    within : (k : ℕ) → k < length y.procedures → k < length s.program.procs
-    within k less = let count = targets_counted s.program graphs found addresses t known this_unit this.is in omega (arith, less, count)
-
-    procedure_at_label : (k : ℕ) → k < length y.procedures → f.labels q (label_at y.procedures k).number ≡ (row_of s.placement k).code
-    procedure_at_label k less = target_is s.program graphs found addresses t known this_unit this.is k (within k less) ∙ sym (row_of_procedure k)
+    procedure_at_label : (k : ℕ) → has_named y.procedures k ≡ true → f.labels q (named_at y.procedures k).number ≡ (row_of s.placement k).code
+    procedure_at_label k has = target_is s.program graphs found addresses t known this_unit this.is k has ∙ sym (row_of_procedure k)
 
     at_fits : (k : ℕ) → (row_of s.placement k).code % 2 ^ 64 ≡ (row_of s.placement k).code
     at_fits k =

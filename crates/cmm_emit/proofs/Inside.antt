@@ -15,6 +15,7 @@ use Rattle.cmm_graph.specs.declared.graph.Graph.{Graph}
 use Rattle.cmm_graph.specs.declared.number.NodeId.{NodeId}
 use Rattle.cmm_unit_code.specs.Joined.{IsWhole}
 use Rattle.cmm_unit_code.specs.Texts.{HasLandings, ascend_above}
+use Rattle.cmm_unit_code.specs.declared.unit_code.Reference.{Reference}
 use Rattle.cmm_unit_code.specs.declared.unit_code.UnitCode.{UnitCode}
 use Rattle.cmm_allocate.specs.declared.procedure.ProcedurePlaces.{ProcedurePlaces}
 use Rattle.cmm_emit.specs.declared.context.Context.{Context}
@@ -22,6 +23,7 @@ use Rattle.cmm_emit.specs.Naming.{label_at}
 use Rattle.cmm_emit.proofs.Addresses.{HasPlace, ascending, place_fine, placed_by, word_before}
 use Rattle.cmm_emit.proofs.Belonging.{IsOne, entry_label, length-entry_labels, one_of, one_with, there_at}
 use Rattle.cmm_emit.proofs.Layable.{share_in}
+use Rattle.cmm_emit.proofs.Meanings.{symbols_named}
 use Rattle.cmm_emit.specs.Finishing.{places_at}
 use Rattle.cmm_emit.specs.LaidProcedures.{CanAllBeLaidIn}
 use Rattle.cmm_emit.specs.Orders.{AreInOrder, IsClosed}
@@ -94,6 +96,9 @@ module _ (p : Program) (graphs : List Graph) (found : List ProcedurePlaces) (fir
   pub unit_whole : IsWhole u
   unit_whole = record {
     apart = is.finished.done.apart;
+    symbols =
+        subst (λ (rs : List Reference). All (λ f. f.symbol < length rs) u.fixes) (sym is.finished.references)
+        (symbols_named o.references is.labels (record { symbols = is.whole.symbols; inner = is.whole.inner }) is.parts u.fixes is.finished.done.symbols);
     procedures = subst (λ (ns : List ℕ). All (λ offset. offset ≤ size) ns) (sym is.finished.procedures) (places_within o.entries);
     landings = subst (λ (ns : List (List ℕ)). All (All (λ offset. offset ≤ size)) ns) (sym is.finished.landings)
         (All-map (All (λ offset. offset ≤ size)) (λ c. places_at places c.landings) o.contexts (λ k d less. places_within (get_or o.contexts k d).landings));

@@ -20,7 +20,7 @@ use Rattle.cmm_emit_laws.specs.Naming.{GraphsAreNamed}
 use Rattle.cmm_data.specs.Laws.{InRangeCanBeLaidOut, LabelsLieInData, LiesInData}
 use Rattle.cmm_folded.specs.Flow.{IsFoldedFlow}
 use Rattle.cmm_folded.specs.Laws.{FoldedFlowsAreGraphs, FoldedFlowsHaveSites, FoldedFlowsPassFew, FoldedFlowsWaitAtEach, FoldedFlowsWaitOnce, FoldedFlowsYieldThere}
-use Rattle.cmm_unit_code.specs.Joined.{CanBeJoined, IsJoined, IsTextOf, IsWhole, joined_code, landing_addresses, procedure_addresses, site_addresses}
+use Rattle.cmm_unit_code.specs.Joined.{CanBeJoined, IsJoined, IsTextOf, IsWhole, joined_code, landing_addresses, procedure_addresses, reference_value, site_addresses}
 use Rattle.cmm_unit_code.specs.Texts.{IsText, address_in}
 use Rattle.cmm_unit_code.specs.declared.text.Text.{Text}
 use Rattle.cmm_unit_code.specs.declared.unit_code.ProgramCode.{ProgramCode}
@@ -45,14 +45,19 @@ use Rattle.cmm_emit.specs.Starts.{IsStart}
 use Rattle.cmm_emit.specs.Outlines.{own}
 use Rattle.cmm_emit.specs.Premises.{AreCovered, AreShort}
 use Rattle.cmm_emit.specs.Texts.{IsCodeOfProgram}
-use Rattle.cmm_emit.specs.Units.{AreUnits, IsUnit}
+use Rattle.cmm_emit.proofs.Referring.{have_references}
+use Rattle.cmm_emit.specs.Units.{AreUnits, IsUnit, NamesWhatItUses}
 use Rattle.cmm_emit.specs.declared.start.Start.{Start}
 
 module _ (p : Program) (graphs : List Graph) (found : List ProcedurePlaces)
     (can_of : (first count : ℕ) (u : UnitCode) (is : IsUnit p graphs found first count u) → CanAllBeLaidIn p graphs found is.outline)
     (addresses : List ℕ) (t : Text) where
-  abbrev value : ℕ → ℕ
-  value = value_in p addresses t
+  abbrev value : UnitCode → ℕ → ℕ
+  value = value_in addresses t
+
+  -- the bytes of units from an address on
+  abbrev bytes_from : ℕ → List UnitCode → List ℕ
+  bytes_from at us = joined_code (reference_value addresses t.procedures) at us
 
   -- a unit where it stands
   abbrev made : (first count at : ℕ) (u : UnitCode) → IsUnit p graphs found first count u → Laid
@@ -66,7 +71,7 @@ module _ (p : Program) (graphs : List Graph) (found : List ProcedurePlaces)
   -- what is so far of the text, before the units from an address on
   pub record StandBehind (first at : ℕ) (us : List UnitCode) : Type 0 where
     pub front : List ℕ
-    pub code : t.code ≡ front ++ joined_code value at us
+    pub code : t.code ≡ front ++ bytes_from at us
     pub place : at ≡ code_base + length front
     pub aligned : at % 4 ≡ 0
     pub earlier : List ℕ
@@ -83,8 +88,8 @@ module _ (p : Program) (graphs : List Graph) (found : List ProcedurePlaces)
     abbrev x : Laid
     x = made first count at u is
 
-    filled_same : length (filled value at u.fixes u.code) ≡ length u.code
-    filled_same = (filled_counted value at 0 u.fixes u.code is.finished.done.apart).0
+    filled_same : length (filled (value u) at u.fixes u.code) ≡ length u.code
+    filled_same = (filled_counted (value u) at 0 u.fixes u.code is.finished.done.apart).0
 
     within : at + length u.code ≤ code_base + length t.code
     within =
@@ -94,8 +99,8 @@ module _ (p : Program) (graphs : List Graph) (found : List ProcedurePlaces)
           place,
           filled_same,
           ap (λ (bs : List ℕ). length bs) behind.code,
-          length-append behind.front (filled value at u.fixes u.code ++ joined_code value (at + length u.code) us),
-          length-append (filled value at u.fixes u.code) (joined_code value (at + length u.code) us),
+          length-append behind.front (filled (value u) at u.fixes u.code ++ bytes_from (at + length u.code) us),
+          length-append (filled (value u) at u.fixes u.code) (bytes_from (at + length u.code) us),
         )
 
     procedures_counted : length u.procedures ≡ length is.outline.contexts
@@ -173,7 +178,8 @@ module _ (p : Program) (graphs : List Graph) (found : List ProcedurePlaces)
       can = can_of first count u is;
       whole = is.whole;
       done = is.finished.done;
-      stands = record { front = behind.front; back = joined_code value (at + length u.code) us; is = behind.code; place = behind.place; aligned = behind.aligned; within = within };
+      references = is.finished.references;
+      stands = record { front = behind.front; back = bytes_from (at + length u.code) us; is = behind.code; place = behind.place; aligned = behind.aligned; within = within };
       entries = entry;
       sites = site;
       lands = land;
@@ -181,9 +187,9 @@ module _ (p : Program) (graphs : List Graph) (found : List ProcedurePlaces)
 
     next_behind : StandBehind (first + count) (at + length u.code) us
     next_behind = record {
-      front = behind.front ++ filled value at u.fixes u.code;
-      code = behind.code ∙ sym (append_assoc behind.front (filled value at u.fixes u.code) (joined_code value (at + length u.code) us));
-      place = let place = behind.place in omega (arith, place, filled_same, length-append behind.front (filled value at u.fixes u.code));
+      front = behind.front ++ filled (value u) at u.fixes u.code;
+      code = behind.code ∙ sym (append_assoc behind.front (filled (value u) at u.fixes u.code) (bytes_from (at + length u.code) us));
+      place = let place = behind.place in omega (arith, place, filled_same, length-append behind.front (filled (value u) at u.fixes u.code));
       aligned = let four = behind.aligned in let whole = is.finished.done.whole in omega (arith, four, whole);
       earlier = behind.earlier ++ map (λ offset. at + offset) u.procedures;
       procedures = behind.procedures ∙ sym (append_assoc behind.earlier (map (λ offset. at + offset) u.procedures) (procedure_addresses (at + length u.code) us));
@@ -233,16 +239,16 @@ module _ (p : Program) (graphs : List Graph) (found : List ProcedurePlaces)
 
   -- ---- behind the code with which a run begins
 
-  module _ (start : Start) (is_start : IsStart p start) (us : List UnitCode) (joined : IsJoined (length p.globals) addresses (start.code ∷ us) start.last t) where
+  module _ (start : Start) (is_start : IsStart p start) (us : List UnitCode) (joined : IsJoined addresses (start.code ∷ us) start.last t) where
     abbrev rest : List ℕ
-    rest = joined_code value (code_base + length start.code.code) us
+    rest = bytes_from (code_base + length start.code.code) us
 
-    start_filled : length (filled value code_base start.code.fixes start.code.code) ≡ length start.code.code
-    start_filled = (filled_counted value code_base 0 start.code.fixes start.code.code is_start.done.apart).0
+    start_filled : length (filled (value start.code) code_base start.code.fixes start.code.code) ≡ length start.code.code
+    start_filled = (filled_counted (value start.code) code_base 0 start.code.fixes start.code.code is_start.done.apart).0
 
     pub start_behind : StandBehind 0 (code_base + length start.code.code) us
     start_behind = record {
-      front = filled value code_base start.code.fixes start.code.code;
+      front = filled (value start.code) code_base start.code.fixes start.code.code;
       code = joined.code;
       place = omega (arith, start_filled);
       aligned = let whole = is_start.done.whole in omega (arith, whole);
@@ -263,7 +269,7 @@ module _ (p : Program) (graphs : List Graph) (found : List ProcedurePlaces)
       landings_count = refl;
     }
 
-    pub start_stands : StandAt value t code_base start.code
+    pub start_stands : StandAt (value start.code) t code_base start.code
     start_stands = record {
       front = [];
       back = rest;
@@ -275,7 +281,7 @@ module _ (p : Program) (graphs : List Graph) (found : List ProcedurePlaces)
             arith,
             start_filled,
             ap (λ (bs : List ℕ). length bs) joined.code,
-            length-append (filled value code_base start.code.fixes start.code.code) rest,
+            length-append (filled (value start.code) code_base start.code.fixes start.code.code) rest,
           );
     }
 
@@ -376,9 +382,12 @@ module _ (p : Program) (graphs : List Graph) (found : List ProcedurePlaces) (ran
     last = last_low p start is_start;
   }
 
+  pub names : NamesWhatItUses p graphs code
+  names = record { start = start.code; units = us; is = units.1; main = is_start.references; each = have_references p graphs found can 0 us are }
+
   module _ (t : Text) (is : IsTextOf p code t) where
-    joined : IsJoined (length p.globals) (label_addresses p) (start.code ∷ us) start.last t
-    joined = subst (λ (cs : List UnitCode). IsJoined (length p.globals) (label_addresses p) cs start.last t) units.1 is
+    joined : IsJoined (label_addresses p) (start.code ∷ us) start.last t
+    joined = subst (λ (cs : List UnitCode). IsJoined (label_addresses p) cs start.last t) units.1 is
 
     pub text_is : IsText p t
     text_is = is_text p graphs found range graph_count continuations waiting can us few are start is_start (label_addresses p) t joined

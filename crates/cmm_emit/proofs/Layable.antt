@@ -24,13 +24,11 @@ use Rattle.cmm_emit.specs.declared.context.Context.{Context}
 use Rattle.cmm_emit.specs.declared.context.Targets.{Targets}
 use Rattle.cmm_emit.proofs.Belonging.{length-entry_labels, share_at, share_counted, there_at}
 use Rattle.cmm_emit.proofs.Counting.{first_label_few, nodes_cost, sites_few}
-use Rattle.cmm_emit.proofs.Numbering.{length-labels_from}
-use Rattle.cmm_emit.proofs.Owning.{length-with_own}
+use Rattle.cmm_emit.proofs.Outlined.{label_there}
 use Rattle.cmm_emit.proofs.Procedures.{can_be_laid}
 use Rattle.cmm_emit.specs.Contexts.{first_label, place_in}
-use Rattle.cmm_emit.specs.Labels.{labels_from}
 use Rattle.cmm_emit.specs.LaidProcedures.{CanAllBeLaidIn}
-use Rattle.cmm_emit.specs.Outlines.{IsOutlineIn, first_own, number_symbols, own, share}
+use Rattle.cmm_emit.specs.Outlines.{IsOutlineIn, first_own, own, share, symbol_count}
 use Rattle.cmm_emit.specs.Premises.{AreShort}
 use Rattle.cmm_emit.specs.declared.outline.Outline.{Outline}
 
@@ -128,7 +126,7 @@ module _ (p : Program) (graphs : List Graph) (found : List ProcedurePlaces) (ran
 
   -- all its labels have numbers of 32 bits
   pub labels_fit : AreShort p.procs graphs found → length p.labels ≤ 1000000 → (first count : ℕ) → first + count ≤ length p.procs →
-      first_label (first_own p) (share first count p.procs) (share first count graphs) count ≤ 2 ^ 32
+      first_label (symbol_count p + 2) (share first count p.procs) (share first count graphs) count ≤ 2 ^ 32
   labels_fit short few first count within =
       let tokens = range.tokens in
       let registers = range.registers in
@@ -139,7 +137,7 @@ module _ (p : Program) (graphs : List Graph) (found : List ProcedurePlaces) (ran
       in
       omega (
         arith,
-        first_label_few (first_own p) (share first count p.procs) (share first count graphs) count each,
+        first_label_few (symbol_count p + 2) (share first count p.procs) (share first count graphs) count each,
         share_tokens first count p.procs,
         tokens,
         registers,
@@ -171,12 +169,6 @@ module _ (p : Program) (graphs : List Graph) (found : List ProcedurePlaces) (ran
     entries_counted =
         ap (λ (ls : List Label). length ls) outline.entries ∙ length-entry_labels o.contexts (own o graphs) (share_counted o.first count graphs beside)
 
-    procedures_counted : length p.procs ≡ length o.targets.procedures
-    procedures_counted =
-        let all = labels_from (number_symbols p) (length p.procs) in
-        let many = length-labels_from (number_symbols p) (length p.procs) in
-        sym (ap (λ (ls : List Label). length ls) outline.procedures ∙ (length-with_own o.first o.entries all (omega (arith, within, entries_counted, many)) ∙ many))
-
     pub can_all_be_laid : FramesCanBeMade → FoldedFlowsWaitOnce → AreShort p.procs graphs found → CanAllBeLaidIn p graphs found o
     can_all_be_laid made waits short = record {
       graph_count = share_counted o.first count graphs beside ∙ sym (share_counted o.first count p.procs within);
@@ -188,12 +180,10 @@ module _ (p : Program) (graphs : List Graph) (found : List ProcedurePlaces) (ran
           let there = share_in o.first count graphs n g beside also in
           let q = procedure_beside m g there in
           let k = found_beside m g there in
-          can_be_laid p q.0 g k.0 (first_label (first_own p) (own o p.procs) (own o graphs) n) c o.targets (range_of m q.0 q.1) (graph_of m q.0 g q.1 there)
+          can_be_laid p q.0 g k.0 (first_label (first_own o) (own o p.procs) (own o graphs) n) c o.targets (range_of m q.0 q.1) (graph_of m q.0 g q.1 there)
           (places_at p.procs graphs found m q.0 g k.0 places q.1 there k.1)
           (outline.contexts.each n q.0 g k.0 c (at_procedure n q.0 less q.1) also (at_found n k.0 less k.1) is)
-          procedures_counted
-          (sym (ap (λ (ls : List Label). length ls) outline.data_labels ∙ length-labels_from (length p.globals) (length p.labels)))
-          (sym (ap (λ (ls : List Label). length ls) outline.registers ∙ length-labels_from 0 (length p.globals)))
+          (label_there p (own o p.procs) (own o graphs) (own o found) o outline (entries_counted ∙ outline.contexts.count) n g also)
           (named p q.0 g (graph_of m q.0 g q.1 there)).named (passes p q.0 g (range_of m q.0 q.1) (flow_of m q.0 g q.1 there)) made (waits p q.0 g (range_of m q.0 q.1) (flow_of m q.0 g q.1 there));
       short = λ n q c g is is_context also.
           let less = slice_get_within o.contexts n c is_context in

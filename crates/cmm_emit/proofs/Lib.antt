@@ -12,6 +12,10 @@ mod Covering
 mod Own
 mod Belonging
 mod Owning
+mod Outlined
+mod Mentioned
+mod MentionedNodes
+mod Symbolled
 mod Numbering
 mod Starting
 mod Ordering
@@ -23,7 +27,7 @@ mod Addresses
 mod Returns
 mod SiteNodes
 mod Standing
-mod Symbols
+mod Meanings
 mod Coding
 mod Weakening
 mod YieldSites
@@ -37,8 +41,10 @@ mod Counting
 mod Grouping
 mod Layable
 mod Joining
+mod Referring
 mod Making
 mod Meant
 mod SmallRows
+mod ReferenceRows
 mod YieldRows
 mod Closing

@@ -4,7 +4,8 @@ use Rattle.std.specs.Prelude.{replicate}
 use Rattle.std.proofs.lemmas.Option.{slice_get-get_or}
 use Rattle.rv_asm.specs.declared.part.Label.{Label}
 use Rattle.rv_asm.specs.declared.part.Meaning.{Meaning}
-use Rattle.rv_asm.specs.declared.part.Meaning.TheVariants.{Inner, Outer}
+use Rattle.rv_asm.specs.declared.part.Meaning.TheVariants.{Inner}
+use Rattle.cmm_unit_code.specs.declared.unit_code.Reference.{Reference}
 use Rattle.cmm_emit.specs.Labels.{symbol_labels}
 use Rattle.cmm_emit.proofs.Numbering.{length-symbol_labels}
 use Rattle.cmm_program.specs.declared.procedure.Proc.{Proc}
@@ -91,60 +92,25 @@ first_label_shift a b (q ∷ qs) (g ∷ gs) (suc n) =
 
 -- ---- the labels of a unit, in the order in which they are made
 
-pub symbols_both : (relative : Bool) (first a b : ℕ) → symbol_labels relative first a ++ symbol_labels relative (first + a) b ≡ symbol_labels relative first (a + b)
-symbols_both relative first zero b =
-    let e : first + 0 ≡ first = omega arith in
-    let n : 0 + b ≡ b = omega arith in
-    rw (e, n) refl
-symbols_both relative first (suc a) b =
-    let e : first + suc a ≡ suc first + a = omega arith in
-    let n : suc a + b ≡ suc (a + b) = omega arith in
-    rw (e, n) (ap (λ (ms : List Meaning). Outer first relative ∷ ms) (symbols_both relative (suc first) a b))
-
-pub symbols_more_counted : (relative : Bool) (old new : List Meaning) (count : ℕ) → new ≡ old ++ symbol_labels relative (length old) count → length new ≡ length old + count
-symbols_more_counted relative old new count is =
-    ap (λ (ms : List Meaning). length ms) is
-    ∙ (length-append old (symbol_labels relative (length old) count) ∙ ap (λ (n : ℕ). length old + n) (length-symbol_labels relative (length old) count))
-
 pub one_more_counted : (old new : List Meaning) → new ≡ old ++ Inner false ∷ [] → length new ≡ length old + 1
 one_more_counted old new is = ap (λ (ms : List Meaning). length ms) is ∙ length-append old (Inner false ∷ [])
 
-module _ (g d m t : ℕ) (l0 l1 l2 l3 l4 l5 l6 : List Meaning) (e0 : l0 ≡ []) (e1 : l1 ≡ l0 ++ symbol_labels false (length l0) g)
-    (e2 : l2 ≡ l1 ++ symbol_labels false (length l1) d) (e3 : l3 ≡ l2 ++ symbol_labels true (length l2) m)
-    (e4 : l4 ≡ l3 ++ Inner false ∷ []) (e5 : l5 ≡ l4 ++ Inner false ∷ []) (e6 : l6 ≡ l5 ++ replicate t (Inner false)) where
-  first_is : l1 ≡ symbol_labels false 0 g
-  first_is = e1 ∙ ap (λ (ms : List Meaning). ms ++ symbol_labels false (length ms) g) e0
+module _ (rs : List Reference) (t : ℕ) (l1 l2 l3 l4 : List Meaning) (e1 : l1 ≡ symbol_labels rs) (e2 : l2 ≡ l1 ++ Inner false ∷ []) (e3 : l3 ≡ l2 ++ Inner false ∷ [])
+    (e4 : l4 ≡ l3 ++ replicate t (Inner false)) where
+  pub symbols_counted : length l1 ≡ length rs
+  symbols_counted = ap (λ (ms : List Meaning). length ms) e1 ∙ length-symbol_labels rs
 
-  pub first_counted : length l1 ≡ g
-  first_counted = ap (λ (ms : List Meaning). length ms) first_is ∙ length-symbol_labels false 0 g
+  pub limit_counted : length l2 ≡ length rs + 1
+  limit_counted = one_more_counted l1 l2 e2 ∙ ap (λ (n : ℕ). n + 1) symbols_counted
 
-  second_is : l2 ≡ symbol_labels false 0 (g + d)
-  second_is =
-      let from : 0 + g ≡ g = omega arith in
-      e2 ∙ (ap (λ (n : ℕ). l1 ++ symbol_labels false n d) first_counted ∙ (ap (λ (ms : List Meaning). ms ++ symbol_labels false g d) first_is
-      ∙ (ap (λ (n : ℕ). symbol_labels false 0 g ++ symbol_labels false n d) (sym from) ∙ symbols_both false 0 g d)))
+  pub client_counted : length l3 ≡ length rs + 2
+  client_counted = omega (arith, one_more_counted l2 l3 e3, limit_counted)
 
-  pub second_counted : length l2 ≡ g + d
-  second_counted = ap (λ (ms : List Meaning). length ms) second_is ∙ length-symbol_labels false 0 (g + d)
-
-  third_is : l3 ≡ symbol_labels false 0 (g + d) ++ symbol_labels true (g + d) m
-  third_is = e3 ∙ (ap (λ (n : ℕ). l2 ++ symbol_labels true n m) second_counted ∙ ap (λ (ms : List Meaning). ms ++ symbol_labels true (g + d) m) second_is)
-
-  pub third_counted : length l3 ≡ g + d + m
-  third_counted = symbols_more_counted true l2 l3 m e3 ∙ ap (λ (n : ℕ). n + m) second_counted
-
-  pub fourth_counted : length l4 ≡ g + d + m + 1
-  fourth_counted = one_more_counted l3 l4 e4 ∙ ap (λ (n : ℕ). n + 1) third_counted
-
-  pub fifth_counted : length l5 ≡ g + d + m + 2
-  fifth_counted = omega (arith, one_more_counted l4 l5 e5, fourth_counted)
-
-  pub outline_labels : l6 ≡ symbol_labels false 0 (g + d) ++ (symbol_labels true (g + d) m ++ replicate (2 + t) (Inner false))
+  pub outline_labels : l4 ≡ symbol_labels rs ++ replicate (2 + t) (Inner false)
   outline_labels =
       let inner = replicate t (Inner false) in
       let both : replicate (2 + t) (Inner false) ≡ Inner false ∷ Inner false ∷ inner = let n : 2 + t ≡ suc (suc t) = omega arith in rw n refl in
-      e6 ∙ (ap (λ (ms : List Meaning). ms ++ inner) (e5 ∙ ap (λ (ms : List Meaning). ms ++ Inner false ∷ []) (e4 ∙ ap (λ (ms : List Meaning). ms ++ Inner false ∷ []) third_is))
-      ∙ (append_assoc ((symbol_labels false 0 (g + d) ++ symbol_labels true (g + d) m) ++ Inner false ∷ []) (Inner false ∷ []) inner
-      ∙ (append_assoc (symbol_labels false 0 (g + d) ++ symbol_labels true (g + d) m) (Inner false ∷ []) (Inner false ∷ inner)
-      ∙ (append_assoc (symbol_labels false 0 (g + d)) (symbol_labels true (g + d) m) (Inner false ∷ Inner false ∷ inner)
-      ∙ ap (λ (ms : List Meaning). symbol_labels false 0 (g + d) ++ (symbol_labels true (g + d) m ++ ms)) (sym both)))))
+      e4 ∙ (ap (λ (ms : List Meaning). ms ++ inner) (e3 ∙ ap (λ (ms : List Meaning). ms ++ Inner false ∷ []) (e2 ∙ ap (λ (ms : List Meaning). ms ++ Inner false ∷ []) e1))
+      ∙ (append_assoc (symbol_labels rs ++ Inner false ∷ []) (Inner false ∷ []) inner
+      ∙ (append_assoc (symbol_labels rs) (Inner false ∷ []) (Inner false ∷ inner)
+      ∙ ap (λ (ms : List Meaning). symbol_labels rs ++ ms) (sym both))))

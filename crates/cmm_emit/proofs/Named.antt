@@ -48,6 +48,11 @@ use Rattle.cmm_live.specs.Locals.{local_count, local_number as number_of_local}
 use Rattle.cmm_calls.specs.Copying.{is_destination as is_code_destination}
 use Rattle.cmm_calls.specs.Values.{is_operand as is_code_operand}
 use Rattle.cmm_emit_laws.specs.ProgramCode.{names_register}
+use Rattle.cmm_unit_code.specs.declared.unit_code.Reference.{Reference}
+use Rattle.cmm_unit_code.specs.declared.unit_code.Reference.TheVariants as reference
+use Rattle.cmm_emit.proofs.MentionedNodes.{is_mentioned, reads_mentioned, takes_mentioned, value_mentioned}
+use Rattle.cmm_emit.proofs.Outlined.{IsIn, has_label}
+use Rattle.cmm_emit.specs.Mentions.{graph_names}
 use Rattle.cmm_emit.specs.declared.context.Context.{Context}
 use Rattle.cmm_emit.specs.declared.context.Targets.{Targets}
 use Rattle.cmm_emit.specs.Naming.{argument_operand, argument_operands, can_begin, can_come_back, can_copy, can_give, can_go_to, can_land, can_send, can_take, code_operand, code_operands, constant_operand, has_argument, has_arm, has_both, has_constant, has_destination, has_kind, has_landing, has_local, has_node, has_operand, has_rvalue, has_site, has_target, local_number, place, target_destination, target_destinations, variable_places}
@@ -88,9 +93,7 @@ pub record Has (p : Program) (q : Proc) (g : Graph) (c : Context) (y : Targets) 
   pub stack : length (stackdata_labels q.stack) ≡ length c.frame.stack
   pub offset_stack : (n : ℕ) → nat_le (get_or c.frame.stack n 0) c.frame.size ≡ true
   pub offset_pairs : (n : ℕ) → nat_le (get_or c.frame.pairs n 0) c.frame.size ≡ true
-  pub procedures : length p.procs ≡ length y.procedures
-  pub data_labels : length p.labels ≡ length y.data_labels
-  pub registers : length p.globals ≡ length y.registers
+  pub named : (r : Reference) → IsIn p r → graph_names r g ≡ true → has_label y r ≡ true
 
 -- ---- places of a frame
 
@@ -138,17 +141,30 @@ module _ (p : Program) (q : Proc) (g : Graph) (c : Context) (y : Targets) (has :
 
   -- ---- operands
 
-  constant_there : (k : Constant) → is_constant k ≡ true → is_some (constant_width p k) ≡ true → has_constant y k ≡ true
-  constant_there (constant.Number n width) is named = bits_few n width is
-  constant_there (constant.Code proc plus) is named =
-      less_in proc (length p.procs) (length y.procedures) has.procedures (is_there (nat_lt proc (length p.procs)) W64 named)
-  constant_there (constant.Address label plus) is named =
-      less_in label (length p.labels) (length y.data_labels) has.data_labels (is_there (nat_lt label (length p.labels)) W64 named)
+  -- an operand is of the procedure, and the graph names it
+  abbrev pub names : Operand → Bool
+  names o = names_operand p q o && is_mentioned g o
 
-  operand_there : (o : Operand) → is_operand g o ≡ true → names_operand p q o ≡ true → has_operand c y o ≡ true
-  operand_there (operand.Constant k) is named = constant_there k is named
+  abbrev pub takes : Target → Bool
+  takes t = names_register p t && takes_mentioned g t
+
+  constant_there : (k : Constant) → is_constant k ≡ true → is_some (constant_width p k) ≡ true → is_mentioned g (operand.Constant k) ≡ true → has_constant y k ≡ true
+  constant_there (constant.Number n width) is named mentioned = bits_few n width is
+  constant_there (constant.Code proc plus) is named mentioned =
+      let test = is_there (nat_lt proc (length p.procs)) W64 named in
+      has.named (reference.Procedure proc) (grind (arith, nat_tests, test)) mentioned
+  constant_there (constant.Address label plus) is named mentioned =
+      let test = is_there (nat_lt label (length p.labels)) W64 named in
+      has.named (reference.Label label) (grind (arith, nat_tests, test)) mentioned
+
+  operand_there : (o : Operand) → is_operand g o ≡ true → names o ≡ true → has_operand c y o ≡ true
+  operand_there (operand.Constant k) is named =
+      let both = and_parts (names_operand p q (operand.Constant k)) (is_mentioned g (operand.Constant k)) named in
+      constant_there k is both.0 both.1
   operand_there (operand.Local l) is named = local_there l is
-  operand_there (operand.Stackdata label) is named = less_in label.number (length (stackdata_labels q.stack)) (length c.frame.stack) has.stack named
+  operand_there (operand.Stackdata label) is named =
+      less_in label.number (length (stackdata_labels q.stack)) (length c.frame.stack) has.stack
+      (and_parts (nat_lt label.number (length (stackdata_labels q.stack))) true named).0
   operand_there (operand.Continuation k) is named = less_in k.number (length g.continuations) (length c.frame.pairs) has.pairs is
 
   constant_fine : (k : Constant) → is_code_operand c.frame (constant_operand y k) ≡ true
@@ -156,7 +172,7 @@ module _ (p : Program) (q : Proc) (g : Graph) (c : Context) (y : Targets) (has :
   constant_fine (constant.Code proc plus) = refl
   constant_fine (constant.Address label plus) = refl
 
-  operand_fine : (o : Operand) → is_operand g o ≡ true → names_operand p q o ≡ true → is_code_operand c.frame (code_operand c y o) ≡ true
+  operand_fine : (o : Operand) → is_operand g o ≡ true → names o ≡ true → is_code_operand c.frame (code_operand c y o) ≡ true
   operand_fine (operand.Constant k) is named = constant_fine k
   operand_fine (operand.Local l) is named = place_fine l is
   operand_fine (operand.Stackdata label) is named = has.offset_stack label.number
@@ -164,18 +180,18 @@ module _ (p : Program) (q : Proc) (g : Graph) (c : Context) (y : Targets) (has :
 
   -- ---- arguments
 
-  arguments_there : (args : List Argument) → list_all (is_argument g) args ≡ true → list_all (names_operand p q) (values_of args) ≡ true →
+  arguments_there : (args : List Argument) → list_all (is_argument g) args ≡ true → list_all names (values_of args) ≡ true →
       (list_all (has_argument c y) args ≡ true) × (list_all (is_code_operand c.frame) (argument_operands c y args) ≡ true)
   arguments_there [] are named = (refl, refl)
   arguments_there (a ∷ args) are named =
       let first = and_parts (is_argument g a) (list_all (is_argument g) args) are in
-      let second = and_parts (names_operand p q a.value) (list_all (names_operand p q) (values_of args)) named in
+      let second = and_parts (names a.value) (list_all names (values_of args)) named in
       let rest = arguments_there args first.1 second.1 in (
         and_from (has_argument c y a) (list_all (has_argument c y) args) (operand_there a.value first.0 second.0) rest.0,
         and_from (is_code_operand c.frame (argument_operand c y a)) (list_all (is_code_operand c.frame) (argument_operands c y args)) (operand_fine a.value first.0 second.0) rest.1,
       )
 
-  can_pass : (args : List Argument) → list_all (is_argument g) args ≡ true → list_all (names_operand p q) (values_of args) ≡ true → nat_le (length args) 64 ≡ true →
+  can_pass : (args : List Argument) → list_all (is_argument g) args ≡ true → list_all names (values_of args) ≡ true → nat_le (length args) 64 ≡ true →
       (list_all (has_argument c y) args && can_give c y (argument_operands c y args)) ≡ true
   can_pass args are named few =
       let there = arguments_there args are named in
@@ -185,9 +201,9 @@ module _ (p : Program) (q : Proc) (g : Graph) (c : Context) (y : Targets) (has :
       (and_from (nat_le (length vs) 64) (list_all (is_code_operand c.frame) vs) count there.1)
 
   can_go : (to : Operand) (args : List Argument) → is_operand g to ≡ true → list_all (is_argument g) args ≡ true →
-      list_all (names_operand p q) (to ∷ values_of args) ≡ true → nat_le (length args) 64 ≡ true → can_go_to c y to args ≡ true
+      list_all names (to ∷ values_of args) ≡ true → nat_le (length args) 64 ≡ true → can_go_to c y to args ≡ true
   can_go to args is are named few =
-      let both = and_parts (names_operand p q to) (list_all (names_operand p q) (values_of args)) named in
+      let both = and_parts (names to) (list_all names (values_of args)) named in
       let pass = and_parts (list_all (has_argument c y) args) (can_give c y (argument_operands c y args)) (can_pass args are both.1 few) in
       and_from (has_operand c y to && is_code_operand c.frame (code_operand c y to) && list_all (has_argument c y) args) (can_give c y (argument_operands c y args))
       (and_from (has_operand c y to && is_code_operand c.frame (code_operand c y to)) (list_all (has_argument c y) args)
@@ -195,18 +211,18 @@ module _ (p : Program) (q : Proc) (g : Graph) (c : Context) (y : Targets) (has :
 
   -- ---- values
 
-  values_there : (vs : List Operand) → list_all (is_operand g) vs ≡ true → list_all (names_operand p q) vs ≡ true →
+  values_there : (vs : List Operand) → list_all (is_operand g) vs ≡ true → list_all names vs ≡ true →
       (list_all (has_operand c y) vs ≡ true) × (list_all (is_code_operand c.frame) (code_operands c y vs) ≡ true)
   values_there [] are named = (refl, refl)
   values_there (o ∷ os) are named =
       let first = and_parts (is_operand g o) (list_all (is_operand g) os) are in
-      let second = and_parts (names_operand p q o) (list_all (names_operand p q) os) named in
+      let second = and_parts (names o) (list_all names os) named in
       let rest = values_there os first.1 second.1 in (
         and_from (has_operand c y o) (list_all (has_operand c y) os) (operand_there o first.0 second.0) rest.0,
         and_from (is_code_operand c.frame (code_operand c y o)) (list_all (is_code_operand c.frame) (code_operands c y os)) (operand_fine o first.0 second.0) rest.1,
       )
 
-  sends : (vs : List Operand) → list_all (is_operand g) vs ≡ true → list_all (names_operand p q) vs ≡ true → nat_le (length vs) 64 ≡ true → can_send c y vs ≡ true
+  sends : (vs : List Operand) → list_all (is_operand g) vs ≡ true → list_all names vs ≡ true → nat_le (length vs) 64 ≡ true → can_send c y vs ≡ true
   sends vs are named few =
       let there = values_there vs are named in
       let out = code_operands c y vs in
@@ -216,9 +232,11 @@ module _ (p : Program) (q : Proc) (g : Graph) (c : Context) (y : Targets) (has :
 
   -- ---- what takes values
 
-  target_there : (t : Target) → is_target g t ≡ true → names_register p t ≡ true → has_target c y t ≡ true
+  target_there : (t : Target) → is_target g t ≡ true → takes t ≡ true → has_target c y t ≡ true
   target_there (target.Variable number width) is named = local_there (local.Variable (record { number = number })) is
-  target_there (target.Register number width) is named = less_in number (length p.globals) (length y.registers) has.registers named
+  target_there (target.Register number width) is named =
+      let both = and_parts (nat_lt number (length p.globals)) (graph_names (reference.Register number) g) named in
+      has.named (reference.Register number) (let test = both.0 in grind (arith, nat_tests, test)) both.1
 
   target_fine : (t : Target) → is_target g t ≡ true → is_code_destination c.frame (target_destination c y t) ≡ true
   target_fine (target.Variable number width) is = place_fine (local.Variable (record { number = number })) is
@@ -231,15 +249,15 @@ module _ (p : Program) (q : Proc) (g : Graph) (c : Context) (y : Targets) (has :
       and_from (is_code_destination c.frame (target_destination c y t)) (list_all (is_code_destination c.frame) (target_destinations c y ts)) (target_fine t both.0)
       (targets_fine ts both.1)
 
-  lands : (ts : List Target) → list_all (is_target g) ts ≡ true → list_all (names_register p) ts ≡ true → nat_le (length ts) 64 ≡ true → can_land c y ts ≡ true
+  lands : (ts : List Target) → list_all (is_target g) ts ≡ true → list_all takes ts ≡ true → nat_le (length ts) 64 ≡ true → can_land c y ts ≡ true
   lands ts are named few =
       let ds = target_destinations c y ts in
       let count : nat_le (length ds) 64 ≡ true = subst (λ (n : ℕ). nat_le n 64 ≡ true) (sym (length-map ts (target_destination c y))) few in
-      and_from (list_all (has_target c y) ts) (can_copy c y ds) (all_both (is_target g) (names_register p) (has_target c y) ts target_there are named)
+      and_from (list_all (has_target c y) ts) (can_copy c y ds) (all_both (is_target g) takes (has_target c y) ts target_there are named)
       (and_from (nat_le (length ds) 64) (list_all (is_code_destination c.frame) ds) count (targets_fine ts are))
 
-  destination_there : (d : Destination) → is_destination g d ≡ true → list_all (names_register p) (targets_of_destination d) ≡ true → has_destination c y d ≡ true
-  destination_there (destination.Target t) is named = target_there t is (and_parts (names_register p t) true named).0
+  destination_there : (d : Destination) → is_destination g d ≡ true → list_all takes (targets_of_destination d) ≡ true → has_destination c y d ≡ true
+  destination_there (destination.Target t) is named = target_there t is (and_parts (takes t) true named).0
   destination_there (destination.Temporary t) is named = local_there (local.Temporary t) is
 
   -- ---- formals
@@ -295,35 +313,37 @@ module _ (p : Program) (q : Proc) (g : Graph) (c : Context) (y : Targets) (has :
 
   -- ---- right sides
 
-  two_there : (a b : Operand) → (is_operand g a && is_operand g b) ≡ true → list_all (names_operand p q) (a ∷ b ∷ []) ≡ true →
+  two_there : (a b : Operand) → (is_operand g a && is_operand g b) ≡ true → list_all names (a ∷ b ∷ []) ≡ true →
       (has_operand c y a && has_operand c y b) ≡ true
   two_there a b are named =
       let both = and_parts (is_operand g a) (is_operand g b) are in
-      let first = and_parts (names_operand p q a) (list_all (names_operand p q) (b ∷ [])) named in
-      let second = and_parts (names_operand p q b) true first.1 in
+      let first = and_parts (names a) (list_all names (b ∷ [])) named in
+      let second = and_parts (names b) true first.1 in
       and_from (has_operand c y a) (has_operand c y b) (operand_there a both.0 first.0) (operand_there b both.1 second.0)
 
-  one_there : (a : Operand) → is_operand g a ≡ true → list_all (names_operand p q) (a ∷ []) ≡ true → has_operand c y a ≡ true
-  one_there a is named = operand_there a is (and_parts (names_operand p q a) true named).0
+  one_there : (a : Operand) → is_operand g a ≡ true → list_all names (a ∷ []) ≡ true → has_operand c y a ≡ true
+  one_there a is named = operand_there a is (and_parts (names a) true named).0
 
-  rvalue_there : (r : Rvalue) → is_rvalue g r ≡ true → list_all (names_operand p q) (operands_of_rvalue r) ≡ true → names_rvalue p r ≡ true → has_rvalue c y r ≡ true
-  rvalue_there (rvalue.Copy o) is named there = one_there o is named
-  rvalue_there (rvalue.Register r) is named there = less_in r.number (length p.globals) (length y.registers) has.registers there
-  rvalue_there (rvalue.Load width aligned o) is named there = one_there o (and_parts (is_alignment aligned) (is_operand g o) is).1 named
-  rvalue_there (rvalue.Unary operator width o) is named there = one_there o is named
-  rvalue_there (rvalue.Binary operator width left right) is named there = two_there left right is named
-  rvalue_there (rvalue.Compare test) is named there = two_there test.left test.right is named
-  rvalue_there (rvalue.SignExtend narrow width o) is named there = one_there o (and_parts (nat_le (bits narrow) (bits width)) (is_operand g o) is).1 named
-  rvalue_there (rvalue.LowBits wide width o) is named there = one_there o (and_parts (nat_le (bits width) (bits wide)) (is_operand g o) is).1 named
+  rvalue_there : (r : Rvalue) → is_rvalue g r ≡ true → list_all names (operands_of_rvalue r) ≡ true → names_rvalue p r ≡ true → value_mentioned g r ≡ true →
+      has_rvalue c y r ≡ true
+  rvalue_there (rvalue.Copy o) is named there mentioned = one_there o is named
+  rvalue_there (rvalue.Register r) is named there mentioned = has.named (reference.Register r.number) (grind (arith, nat_tests, there)) mentioned
+  rvalue_there (rvalue.Load width aligned o) is named there mentioned = one_there o (and_parts (is_alignment aligned) (is_operand g o) is).1 named
+  rvalue_there (rvalue.Unary operator width o) is named there mentioned = one_there o is named
+  rvalue_there (rvalue.Binary operator width left right) is named there mentioned = two_there left right is named
+  rvalue_there (rvalue.Compare test) is named there mentioned = two_there test.left test.right is named
+  rvalue_there (rvalue.SignExtend narrow width o) is named there mentioned = one_there o (and_parts (nat_le (bits narrow) (bits width)) (is_operand g o) is).1 named
+  rvalue_there (rvalue.LowBits wide width o) is named there mentioned = one_there o (and_parts (nat_le (bits width) (bits wide)) (is_operand g o) is).1 named
 
   -- ---- kinds of nodes
 
   -- what is known of a node of the graph
   pub record IsFine (kind : NodeKind) : Type 0 where
     pub valid : is_kind g kind ≡ true
-    pub operands : list_all (names_operand p q) (operands kind) ≡ true
-    pub targets : list_all (names_register p) (targets kind) ≡ true
+    pub operands : list_all names (operands kind) ≡ true
+    pub targets : list_all takes (targets kind) ≡ true
     pub registers : reads_registers p kind ≡ true
+    pub reads : reads_mentioned g kind ≡ true
     pub few : passes_few kind ≡ true
     pub site : HasSite q g kind
 
@@ -342,7 +362,7 @@ module _ (p : Program) (q : Proc) (g : Graph) (c : Context) (y : Targets) (has :
       let both = next_there (is_destination g to && is_rvalue g value) next fine.valid in
       let parts = and_parts (is_destination g to) (is_rvalue g value) both.0 in
       and_from (has_destination c y to && has_rvalue c y value) (has_node c next)
-      (and_from (has_destination c y to) (has_rvalue c y value) (destination_there to parts.0 fine.targets) (rvalue_there value parts.1 fine.operands fine.registers)) both.1
+      (and_from (has_destination c y to) (has_rvalue c y value) (destination_there to parts.0 fine.targets) (rvalue_there value parts.1 fine.operands fine.registers fine.reads)) both.1
   kind_there (Store width aligned address value next) fine =
       let both = next_there (is_alignment aligned && is_operand g address && is_operand g value) next fine.valid in
       let three = and_parts (is_alignment aligned && is_operand g address) (is_operand g value) both.0 in
@@ -390,6 +410,6 @@ module _ (p : Program) (q : Proc) (g : Graph) (c : Context) (y : Targets) (has :
       and_from (has_operand c y value) (has_node c next) (one_there value both.0 fine.operands) both.1
   kind_there (Host (host.GetByte to) next) fine =
       let both = next_there (is_target g to) next fine.valid in
-      and_from (has_target c y to) (has_node c next) (target_there to both.0 (and_parts (names_register p to) true fine.targets).0) both.1
+      and_from (has_target c y to) (has_node c next) (target_there to both.0 (and_parts (takes to) true fine.targets).0) both.1
   kind_there (Goto next) fine = node_there is_step next fine.valid
   kind_there Stop fine = refl

@@ -21,7 +21,7 @@ use Rattle.cmm_select.specs.Switches.{MakesInner}
 use Rattle.cmm_graph.specs.declared.graph.Graph.{Graph}
 use Rattle.cmm_graph.specs.declared.number.NodeId.{NodeId}
 use Rattle.cmm_emit.specs.LaidNodes.{AreLaid, HaveSites, IsOwn, PlacesOwn, SitesWait}
-use Rattle.cmm_emit.specs.Naming.{has_kind, label_at, site_label}
+use Rattle.cmm_emit.specs.Naming.{has_kind, label_at, named_at, site_label}
 use Rattle.cmm_emit.specs.Standing.{CanWait, IsReady, labels_with}
 
 -- ---- labels that are kept stay ready
@@ -53,9 +53,9 @@ module _ {old new : List Meaning} (kept : AreKept old new) where
     landings = λ i d h. inner_kept (get_or p.landings i d) (ready.landings i d h);
     landed = ready.landed;
     nodes = λ i d h. inner_kept (get_or p.nodes i d) (ready.nodes i d h);
-    procedures = λ i d h. target_kept (get_or y.procedures i d) (ready.procedures i d h);
-    data_labels = λ i d h. label_kept (get_or y.data_labels i d) (ready.data_labels i d h);
-    registers = λ i d h. label_kept (get_or y.registers i d) (ready.registers i d h);
+    procedures = λ k has. target_kept (named_at y.procedures k) (ready.procedures k has);
+    data_labels = λ k has. label_kept (named_at y.data_labels k) (ready.data_labels k has);
+    registers = λ k has. label_kept (named_at y.registers k) (ready.registers k has);
     few_registers = ready.few_registers;
     limit = inner_kept y.limit ready.limit;
     client = inner_kept y.client ready.client;

@@ -16,7 +16,7 @@ use Rattle.cmm_graph.specs.declared.operand.Local.{Local}
 use Rattle.cmm_graph.specs.declared.operand.Local.TheVariants as local
 use Rattle.cmm_graph.specs.declared.operand.Operand.{Operand}
 use Rattle.cmm_graph.specs.declared.operand.Operand.TheVariants as operand
-use Rattle.rv_asm.specs.Assembly.{IsLabel, IsTarget}
+use Rattle.rv_asm.specs.Assembly.{IsTarget}
 use Rattle.rv_asm.specs.declared.part.Label.{Label}
 use Rattle.rv_asm.specs.declared.part.Meaning.{Meaning}
 use Rattle.cmm_effects.specs.Changes.{IsPlace}
@@ -33,7 +33,8 @@ use Rattle.cmm_emit_laws.specs.NodeCode.{AreOperandsOf, AreTargetsOf, IsDestinat
 use Rattle.cmm_yield_laws.specs.Yielding.{AreNumbersOf}
 use Rattle.cmm_emit.specs.declared.context.Context.{Context}
 use Rattle.cmm_emit.specs.declared.context.Targets.{Targets}
-use Rattle.cmm_emit.specs.Naming.{IsNamed, argument_operand, argument_operands, code_destination, code_operand, code_operands, has_argument, has_destination, has_local, has_operand, has_target, label_at, local_number, place, target_destination, target_destinations}
+use Rattle.cmm_emit.specs.Naming.{IsNamed, argument_operand, argument_operands, code_destination, code_operand, code_operands, has_argument, has_destination, has_local, has_operand, has_target, local_number, named_at, place, target_destination, target_destinations}
+use Rattle.cmm_emit.proofs.Outlined.{named_within}
 use Rattle.cmm_emit.specs.Standing.{IsContextOf, IsReady}
 use Rattle.rv_table.specs.declared.memory_map.TheConstants.{GLOBALS_OFFSET}
 
@@ -43,15 +44,10 @@ module _ (labels : List Meaning) (p : Context) (y : Targets) (ready : IsReady la
   pub place_is_ready : (v : Local) → IsTrue (has_local p v) → IsPlace (place p v)
   place_is_ready v there = All-get_or IsPlace p.places (local_number p v) (Slot 0) (grind (arith, nat_tests, there)) ready.places
 
-  -- control can go to the label of a procedure
-  procedure_is_target : (k : ℕ) → k < length y.procedures → IsTarget labels (label_at y.procedures k)
-  procedure_is_target k there = All-get_or (IsTarget labels) y.procedures k (record { number = 0 }) there ready.procedures
-
   pub operand_is_ready : (o : Operand) → IsTrue (has_operand p y o) → IsOperand labels (code_operand p y o)
   operand_is_ready (operand.Constant (constant.Number n width)) there = tt
-  operand_is_ready (operand.Constant (constant.Code k plus)) there = (procedure_is_target k (grind (arith, nat_tests, there))).0
-  operand_is_ready (operand.Constant (constant.Address k plus)) there =
-      All-get_or (IsLabel labels) y.data_labels k (record { number = 0 }) (grind (arith, nat_tests, there)) ready.data_labels
+  operand_is_ready (operand.Constant (constant.Code k plus)) there = (ready.procedures k there).0
+  operand_is_ready (operand.Constant (constant.Address k plus)) there = ready.data_labels k there
   operand_is_ready (operand.Local v) there = place_is_ready v there
   operand_is_ready (operand.Stackdata label) there =
       All-get_or (λ offset. offset < 2 ^ 21) p.frame.stack label.number 0 (grind (arith, nat_tests, there)) ready.stack
@@ -71,15 +67,14 @@ module _ (labels : List Meaning) (p : Context) (y : Targets) (ready : IsReady la
 
   pub target_is_ready : (t : Target) → IsTrue (has_target p y t) → IsDestination labels (target_destination p y t)
   target_is_ready (target.Variable number width) there = place_is_ready (local.Variable (record { number = number })) there
-  target_is_ready (target.Register number width) there =
-      All-get_or (IsLabel labels) y.registers number (record { number = 0 }) (grind (arith, nat_tests, there)) ready.registers
+  target_is_ready (target.Register number width) there = ready.registers number there
 
   pub destination_is_ready : (d : Destination) → IsTrue (has_destination p y d) → IsDestination labels (code_destination p y d)
   destination_is_ready (destination.Target t) there = target_is_ready t there
   destination_is_ready (destination.Temporary t) there = place_is_ready (local.Temporary t) there
 
   pub named_is_target : (callee : Operand) (to : Label) → IsNamed y callee to → IsTarget labels to
-  named_is_target callee to named = subst (IsTarget labels) (sym named.is_label) (procedure_is_target named.procedure named.there)
+  named_is_target callee to named = subst (IsTarget labels) (sym named.is_label) (ready.procedures named.procedure named.there)
 
   pub targets_are_ready : (ts : List Target) → IsTrue (list_all (has_target p y) ts) → All (IsDestination labels) (target_destinations p y ts)
   targets_are_ready [] all = All-nil (IsDestination labels)
@@ -99,8 +94,8 @@ module _ (labels : List Meaning) (p : Context) (y : Targets) (ready : IsReady la
 
   pub operand_is_of : (o : Operand) → IsTrue (has_operand p y o) → IsOperandOf s c l f q o (code_operand p y o)
   operand_is_of (operand.Constant (constant.Number n width)) there = refl
-  operand_is_of (operand.Constant (constant.Code k plus)) there = is.procedures k plus (grind (arith, nat_tests, there))
-  operand_is_of (operand.Constant (constant.Address k plus)) there = is.data_labels k plus (grind (arith, nat_tests, there))
+  operand_is_of (operand.Constant (constant.Code k plus)) there = is.procedures k plus there
+  operand_is_of (operand.Constant (constant.Address k plus)) there = is.data_labels k plus there
   operand_is_of (operand.Local v) there = ap (λ z. code.Held (source.Place z)) (sym (place_is_of v there))
   operand_is_of (operand.Stackdata label) there = (
     ap (λ (z : Frame). code.Held (source.Address (slice_index_or z.stack label.number 0))) (sym is.frame),
@@ -125,7 +120,7 @@ module _ (labels : List Meaning) (p : Context) (y : Targets) (ready : IsReady la
 
   pub target_is_of : (t : Target) → IsTrue (has_target p y t) → IsTargetOf s c l f q t (target_destination p y t)
   target_is_of (target.Variable number width) there = ap into.Place (sym (place_is_of (local.Variable (record { number = number })) there))
-  target_is_of (target.Register number width) there = is.registers number (grind (arith, nat_tests, there))
+  target_is_of (target.Register number width) there = is.registers number there
 
   pub destination_is_of : (d : Destination) → IsTrue (has_destination p y d) → IsDestinationOf s c l f q d (code_destination p y d)
   destination_is_of (destination.Target t) there = target_is_of t there
@@ -139,8 +134,8 @@ module _ (labels : List Meaning) (p : Context) (y : Targets) (ready : IsReady la
   target_is_global : (t : Target) → IsTrue (has_target p y t) → IsGlobalBy (f.labels q) (target_destination p y t)
   target_is_global (target.Variable number width) there = tt
   target_is_global (target.Register number width) there =
-      let less : number < length y.registers = grind (arith, nat_tests, there) in
-      let offset : f.labels q (label_at y.registers number).number ≡ GLOBALS_OFFSET + 8 * number = omega (arith, is.registers number less (record { address = 0; stack_size = 0 })) in
+      let less = named_within y.registers number there in
+      let offset : f.labels q (named_at y.registers number).number ≡ GLOBALS_OFFSET + 8 * number = omega (arith, is.registers number there (record { address = 0; stack_size = 0 })) in
       subst IsGlobal (sym offset) (record {
         aligned = mod_eight number;
         behind = omega arith;

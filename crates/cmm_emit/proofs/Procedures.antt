@@ -31,6 +31,10 @@ use Rattle.cmm_live.specs.Exact.{AreLiveSets, set_at}
 use Rattle.cmm_live.specs.Locals.{local_count}
 use Rattle.cmm_emit_laws.specs.Laying.{FramesCanBeMade}
 use Rattle.cmm_emit_laws.specs.ProgramCode.{names_register, names_registers}
+use Rattle.cmm_unit_code.specs.declared.unit_code.Reference.{Reference}
+use Rattle.cmm_emit.proofs.MentionedNodes.{is_mentioned, node_mentioned, takes_mentioned}
+use Rattle.cmm_emit.proofs.Outlined.{IsIn, has_label}
+use Rattle.cmm_emit.specs.Mentions.{graph_names}
 use Rattle.cmm_allocate.specs.declared.procedure.ProcedurePlaces.{ProcedurePlaces}
 use Rattle.cmm_allocate.specs.Compiling.{no_place}
 use Rattle.cmm_allocate.specs.Places.{HasPlaces}
@@ -91,12 +95,19 @@ node_within g test n is = by (node_of g n) refl is
     by (Some node) there e = slice_get_within g.nodes n.number node there
     by None there e = absurd (cc)
 
+-- what passes two tests, passes both at once
+both_pass : {A : Type 0} (first second : A → Bool) (xs : List A) → list_all first xs ≡ true → list_all second xs ≡ true → list_all (λ x. first x && second x) xs ≡ true
+both_pass first second [] one two = refl
+both_pass first second (x ∷ xs) one two =
+    let a = and_parts (first x) (list_all first xs) one in
+    let b = and_parts (second x) (list_all second xs) two in
+    and_from (first x && second x) (list_all (λ x. first x && second x) xs) (and_from (first x) (second x) a.0 b.0) (both_pass first second xs a.1 b.1)
+
 -- ---- a procedure
 
 module _ (p : Program) (q : Proc) (g : Graph) (k : ProcedurePlaces) (first : ℕ) (c : Context) (y : Targets)
     (range : IsProcInRange p q) (graph : IsGraphOf p q g) (found : HasPlaces q g k) (made : IsMadeFor q g k first c)
-    (procedures : length p.procs ≡ length y.procedures) (data_labels : length p.labels ≡ length y.data_labels)
-    (registers : length p.globals ≡ length y.registers) where
+    (labels_there : (r : Reference) → IsIn p r → graph_names r g ≡ true → has_label y r ≡ true) where
   frame_is : c.frame ≡ k.frame
   frame_is = made.frame
 
@@ -147,9 +158,7 @@ module _ (p : Program) (q : Proc) (g : Graph) (k : ProcedurePlaces) (first : ℕ
     stack = stack_counted q (row_with code_base k.frame) row.stackdata ∙ sym (ap (λ (f : Frame). length f.stack) frame_is);
     offset_stack = λ n. subst (λ (f : Frame). nat_le (get_or f.stack n 0) f.size ≡ true) (sym frame_is) (le_test (get_or k.frame.stack n 0) k.frame.size (stack_below n));
     offset_pairs = λ n. subst (λ (f : Frame). nat_le (get_or f.pairs n 0) f.size ≡ true) (sym frame_is) (le_test (get_or k.frame.pairs n 0) k.frame.size (pairs_below n));
-    procedures = procedures;
-    data_labels = data_labels;
-    registers = registers;
+    named = labels_there;
   }
 
   -- each node names what is there
@@ -161,11 +170,13 @@ module _ (p : Program) (q : Proc) (g : Graph) (k : ProcedurePlaces) (first : ℕ
         let two = and_parts (list_all (names_operand p q) (operands node.kind) && list_all (is_target p q) (targets node.kind)) (reads_registers p node.kind) names in
         let one = and_parts (list_all (names_operand p q) (operands node.kind)) (list_all (is_target p q) (targets node.kind)) two.0 in
         let there = and_parts (list_all (names_register p) (targets node.kind)) (reads_registers p node.kind) (list_all_get (λ node. names_registers p node.kind) g.nodes n node named is) in
+        let mentioned = node_mentioned g n node is in
         kind_there p q g c y context_has node.kind (record {
           valid = valid;
-          operands = one.0;
-          targets = there.0;
+          operands = both_pass (names_operand p q) (is_mentioned g) (operands node.kind) one.0 mentioned.operands;
+          targets = both_pass (names_register p) (takes_mentioned g) (targets node.kind) there.0 mentioned.targets;
           registers = two.1;
+          reads = mentioned.reads;
           few = list_all_get (λ node. passes_few node.kind) g.nodes n node few is;
           site = all_get (λ node. HasSite q g node.kind) g.nodes n node graph.sites is;
         })

@@ -13,6 +13,7 @@ use Rattle.rv_table.specs.Memory.{code_base}
 use Rattle.rv_asm.proofs.Shared.{fixes_are_filled}
 use Rattle.rv_asm.specs.Filling.{AreApart, filled, fix_number, with_number}
 use Rattle.rv_asm.specs.declared.filling.CodeFix.{CodeFix}
+use Rattle.rv_asm.specs.declared.part.Meaning.TheVariants.{Outer}
 use Rattle.cmm_program.proofs.Shared.{list_all_get}
 use Rattle.cmm_program.specs.Bounds.{code_bound}
 use Rattle.cmm_program.specs.InRange.{IsInRange}
@@ -21,18 +22,21 @@ use Rattle.cmm_program.specs.declared.procedure.Site.{Site}
 use Rattle.cmm_program.specs.declared.program.Program.{Program}
 use Rattle.cmm_graph.specs.declared.graph.Graph.{Graph}
 use Rattle.cmm_image.specs.ImageFormat.{is_code_length, is_in_code}
-use Rattle.cmm_unit_code.specs.Joined.{IsJoined, IsWhole, joined_code, landing_addresses, procedure_addresses, site_addresses}
+use Rattle.cmm_unit_code.specs.Joined.{IsJoined, IsWhole, joined_code, landing_addresses, procedure_addresses, reference_value, site_addresses, symbol_value}
 use Rattle.cmm_unit_code.specs.Texts.{AreDistinct, HasLandings, HasSitesAt, IsSiteAt, IsText, address_in, ascend_above}
 use Rattle.cmm_unit_code.specs.declared.text.Text.{Text}
+use Rattle.cmm_unit_code.specs.declared.unit_code.Reference.{Reference}
+use Rattle.cmm_unit_code.specs.declared.unit_code.Reference.TheVariants.{Procedure}
 use Rattle.cmm_unit_code.specs.declared.unit_code.UnitCode.{UnitCode}
 use Rattle.cmm_allocate.specs.declared.procedure.ProcedurePlaces.{ProcedurePlaces}
 use Rattle.cmm_emit.proofs.Addresses.{place_fine}
 use Rattle.cmm_emit.proofs.Inside.{IsInside, IsRanged, unit_ranged}
 use Rattle.cmm_emit.proofs.JoinedSites.{distinct_both, in_one, is_moved}
-use Rattle.cmm_emit.proofs.Standing.{value_in}
+use Rattle.cmm_emit.proofs.Meanings.{AreMeant, symbols_named}
 use Rattle.cmm_emit.proofs.UnitSites.{HasSitesIn, IsSited, IsSiteIn, unit_sited}
 use Rattle.cmm_emit.proofs.SiteNodes.{IsWaited}
-use Rattle.cmm_emit.specs.LaidProcedures.{CanAllBeLaidIn}
+use Rattle.cmm_emit.specs.Labels.{is_reached}
+use Rattle.cmm_emit.specs.LaidProcedures.{AreInnerFrom, AreSymbolsIn, CanAllBeLaidIn}
 use Rattle.cmm_emit.specs.Outlines.{share}
 use Rattle.cmm_emit.specs.Starts.{IsStart, start_labels}
 use Rattle.cmm_emit.specs.Units.{AreUnits, IsUnit}
@@ -228,9 +232,25 @@ module _ (p : Program) (first count : ℕ) (u : UnitCode) (us : List UnitCode) (
 
 -- ---- the code with which a run begins
 
+-- its one symbol is `main`
+pub start_meant : (p : Program) → AreMeant (Procedure p.main ∷ []) start_labels
+start_meant p = record { symbols = symbols; inner = inner }
+  where
+    symbols : AreSymbolsIn (Procedure p.main ∷ []) start_labels
+    symbols zero r there = let same : Procedure p.main ≡ r = cc in ap (λ (z : Reference). Some (Outer 0 (is_reached z))) same
+    symbols (suc k) r there = absurd (cc)
+
+    inner : AreInnerFrom 1 start_labels
+    inner zero least less = absurd (omega (arith, least))
+    inner (suc zero) least less = refl
+    inner (suc (suc k)) least less = absurd (omega (arith, less))
+
 pub start_whole : (p : Program) (start : Start) → IsStart p start → IsWhole start.code
 start_whole p start is = record {
   apart = is.done.apart;
+  symbols =
+      subst (λ (rs : List Reference). All (λ f. f.symbol < length rs) start.code.fixes) (sym is.references)
+      (symbols_named (Procedure p.main ∷ []) start_labels (start_meant p) is.parts start.code.fixes is.done.symbols);
   procedures = subst (λ (ns : List ℕ). All (λ offset. offset ≤ length start.code.code) ns) (sym is.procedures) (All-nil (λ offset. offset ≤ length start.code.code));
   landings = subst (λ (ns : List (List ℕ)). All (All (λ offset. offset ≤ length start.code.code)) ns) (sym is.landings)
       (All-nil (All (λ offset. offset ≤ length start.code.code)));
@@ -244,7 +264,7 @@ start_few p start is = let done = is.done.few in let most = is.size in omega (ar
 -- where the call of `main` comes back is in it, or at its end
 last_within : (p : Program) (start : Start) → IsStart p start → (start.last % 4 ≡ 0) × (start.last ≤ length start.code.code)
 last_within p start is =
-    subst (λ (n : ℕ). (n % 4 ≡ 0) × (n ≤ length start.code.code)) (sym is.last) (place_fine (start_labels p) is.parts (length start.code.code) is.places is.done.have 1)
+    subst (λ (n : ℕ). (n % 4 ≡ 0) × (n ≤ length start.code.code)) (sym is.last) (place_fine start_labels is.parts (length start.code.code) is.places is.done.have 1)
 
 pub last_low : (p : Program) (start : Start) → IsStart p start → start.last ≤ 2 ^ 30
 last_low p start is = let most = (last_within p start is).1 in omega (arith, most, start_few p start is)
@@ -263,11 +283,11 @@ filled_counted value at from (f ∷ fixes) bytes apart =
     let before = apart.0 in
     (rest.0 ∙ kept, omega (arith, before, behind))
 
-joined_counted : (value : ℕ → ℕ) (at : ℕ) (us : List UnitCode) → All IsWhole us → length (joined_code value at us) ≡ size us
+joined_counted : (value : Reference → ℕ) (at : ℕ) (us : List UnitCode) → All IsWhole us → length (joined_code value at us) ≡ size us
 joined_counted value at [] whole = refl
 joined_counted value at (u ∷ us) whole =
-    let own_bytes = filled value at u.fixes u.code in
-    let own_count = (filled_counted value at 0 u.fixes u.code (All-head IsWhole u us whole).apart).0 in
+    let own_bytes = filled (symbol_value value u.references) at u.fixes u.code in
+    let own_count = (filled_counted (symbol_value value u.references) at 0 u.fixes u.code (All-head IsWhole u us whole).apart).0 in
     let rest = joined_counted value (at + length u.code) us (All-tail IsWhole u us whole) in
     omega (
       arith,
@@ -329,13 +349,13 @@ module _ (p : Program) (graphs : List Graph) (found : List ProcedurePlaces) (ran
         let aligned = ranged.aligned in
         omega (arith, low, high, aligned)
 
-    module _ (addresses : List ℕ) (t : Text) (joined : IsJoined (length p.globals) addresses (start.code ∷ units) start.last t) where
+    module _ (addresses : List ℕ) (t : Text) (joined : IsJoined addresses (start.code ∷ units) start.last t) where
       -- where the units stand behind that code
       abbrev behind : ℕ
       behind = code_base + length start.code.code
 
       pub code_counted : length t.code ≡ sum_by (λ u. length u.code) (start.code ∷ units)
-      code_counted = ap (λ (bytes : List ℕ). length bytes) joined.code ∙ joined_counted (value_in p addresses t) code_base (start.code ∷ units) all_whole
+      code_counted = ap (λ (bytes : List ℕ). length bytes) joined.code ∙ joined_counted (reference_value addresses t.procedures) code_base (start.code ∷ units) all_whole
 
       pub code_bounded : length t.code ≤ code_bound (sum_by (λ q. q.tokens) p.procs)
       code_bounded = omega (arith, code_counted, size_bounded)

@@ -12,7 +12,7 @@ use Rattle.cmm_program.specs.InRange.{IsInRange}
 use Rattle.cmm_program.specs.Layout.{label_addresses}
 use Rattle.cmm_graph.specs.declared.graph.Graph.{Graph}
 use Rattle.cmm_data.specs.Laws.{LiesInData}
-use Rattle.cmm_unit_code.specs.Joined.{symbol_value}
+use Rattle.cmm_unit_code.specs.Joined.{reference_value, symbol_value}
 use Rattle.cmm_unit_code.specs.Texts.{address_in}
 use Rattle.rv_asm.specs.declared.part.Label.{Label}
 use Rattle.cmm_emit.specs.declared.context.Context.{Context}
@@ -37,19 +37,19 @@ pub record Laid : Type 0 where
   pub code : UnitCode
 
 abbrev no_outline : Outline
-no_outline = record { first = 0; contexts = []; entries = []; targets = record { procedures = []; data_labels = []; registers = []; limit = record { number = 0 }; client = record { number = 0 } } }
+no_outline = record { first = 0; references = []; contexts = []; entries = []; targets = record { procedures = []; data_labels = []; registers = []; limit = record { number = 0 }; client = record { number = 0 } } }
 
 abbrev no_unit : Laid
-no_unit = record { at = 0; outline = no_outline; labels = []; parts = []; places = []; code = record { code = []; fixes = []; procedures = []; landings = []; sites = [] } }
+no_unit = record { at = 0; outline = no_outline; labels = []; parts = []; places = []; code = record { code = []; references = []; fixes = []; procedures = []; landings = []; sites = [] } }
 
 -- the unit of a procedure, where each begins with the procedure behind the last of the one before
 abbrev pub unit_of : List Laid → ℕ → Laid
 unit_of [] q = no_unit
 unit_of (x ∷ xs) q = elim (nat_lt q (x.outline.first + length x.outline.contexts)) [ true ↦ x | false ↦ unit_of xs q ]
 
--- what symbols stand for in the text of a program
-abbrev pub value_in : Program → List ℕ → Text → ℕ → ℕ
-value_in p addresses t = symbol_value (length p.globals) addresses t.procedures
+-- what the symbols of some code stand for in a text
+abbrev pub value_in : List ℕ → Text → UnitCode → ℕ → ℕ
+value_in addresses t u = symbol_value (reference_value addresses t.procedures) u.references
 
 -- bytes of code stand in a text at an address, filled
 pub record StandAt (value : ℕ → ℕ) (t : Text) (at : ℕ) (u : UnitCode) : Type 0 where
@@ -66,7 +66,8 @@ pub record IsLaid (p : Program) (graphs : List Graph) (found : List ProcedurePla
   pub can : CanAllBeLaidIn p graphs found x.outline
   pub whole : IsWholeIn p graphs x.outline x.labels x.parts
   pub done : AreFinished x.labels x.parts x.places x.code
-  pub stands : StandAt (value_in p addresses t) t x.at x.code
+  pub references : x.code.references ≡ x.outline.references
+  pub stands : StandAt (value_in addresses t x.code) t x.at x.code
   pub entries : (k : ℕ) → k < length x.outline.contexts →
       get_or t.procedures (x.outline.first + k) 0 ≡ slice_index x.places (label_at x.outline.entries k).number + x.at
   pub sites : (k n : ℕ) (c : Context) (l : Label) → slice_get x.outline.contexts k ≡ Some c → slice_get c.sites n ≡ Some l →
@@ -93,7 +94,7 @@ pub record IsJoint (p : Program) (graphs : List Graph) (found : List ProcedurePl
   pub units : (q : ℕ) → q < length p.procs → IsLaid p graphs found addresses t (unit_of laid q) × HasProcedure (unit_of laid q) q
   pub start : Start
   pub is_start : IsStart p start
-  pub begins : StandAt (value_in p addresses t) t code_base start.code
+  pub begins : StandAt (value_in addresses t start.code) t code_base start.code
   pub from : t.start ≡ code_base
   pub last : t.last ≡ start.last + code_base
   pub procedure_count : length t.procedures ≡ length p.procs

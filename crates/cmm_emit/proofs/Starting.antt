@@ -12,8 +12,6 @@ use Rattle.rv_asm.proofs.Shared.{appends_one}
 use Rattle.rv_table.specs.declared.instruction.Instr.TheVariants.{Ebreak}
 use Rattle.cmm_effects.proofs.Shared.{reaches_more}
 use Rattle.cmm_abi.specs.Registers.{is_scratch}
-use Rattle.cmm_program.specs.declared.program.Program.{Program}
-use Rattle.cmm_emit.specs.Outlines.{number_symbols}
 use Rattle.cmm_emit.specs.Starts.{BeginsBy, CallsMain, last_label, main_label, start_labels}
 
 other_than : (r : ℕ) → ((r == 1) || is_scratch r) ≡ false → r ≡ 1 → ⊥
@@ -34,12 +32,12 @@ closing old new is = subst (λ (ps : List Part). Appends old ps (λ x from to. D
 -- ---- the code with which a run begins
 
 -- its labels: that of `main`, and then that behind the call, which has its place
-module _ (none one two new : List Meaning) (symbol : ℕ) (main last : Label) (is_none : none ≡ []) (is_one : one ≡ none ++ Outer symbol true ∷ []) (is_two : two ≡ one ++ Inner false ∷ [])
+module _ (none one two new : List Meaning) (main last : Label) (is_none : none ≡ []) (is_one : one ≡ none ++ Outer 0 true ∷ []) (is_two : two ≡ one ++ Inner false ∷ [])
     (is_main : main.number ≡ length none) (is_last : last.number ≡ length one) where
-  with_main : one ≡ Outer symbol true ∷ []
-  with_main = is_one ∙ ap (λ (ms : List Meaning). ms ++ Outer symbol true ∷ []) is_none
+  with_main : one ≡ Outer 0 true ∷ []
+  with_main = is_one ∙ ap (λ (ms : List Meaning). ms ++ Outer 0 true ∷ []) is_none
 
-  with_last : two ≡ Outer symbol true ∷ (Inner false ∷ [])
+  with_last : two ≡ Outer 0 true ∷ (Inner false ∷ [])
   with_last = is_two ∙ ap (λ (ms : List Meaning). ms ++ Inner false ∷ []) with_main
 
   pub main_is : main ≡ main_label
@@ -48,11 +46,9 @@ module _ (none one two new : List Meaning) (symbol : ℕ) (main last : Label) (i
   pub last_is : last ≡ last_label
   last_is = ap (λ (n : ℕ). record { number = n }) (is_last ∙ ap (λ (ms : List Meaning). length ms) with_main)
 
-  pub labels_are : (p : Program) → symbol ≡ number_symbols p + p.main → new ≡ set two last.number (Inner true) → new ≡ start_labels p
-  labels_are p is_symbol is_new =
-      is_new
-      ∙ (ap (λ (l : Label). set two l.number (Inner true)) last_is
-      ∙ (ap (λ (ms : List Meaning). set ms 1 (Inner true)) with_last ∙ ap (λ (n : ℕ). Outer n true ∷ (Inner true ∷ [])) is_symbol))
+  pub labels_are : new ≡ set two last.number (Inner true) → new ≡ start_labels
+  labels_are is_new =
+      is_new ∙ (ap (λ (l : Label). set two l.number (Inner true)) last_is ∙ ap (λ (ms : List Meaning). set ms 1 (Inner true)) with_last)
 
 -- it begins with the call
 pub begins : (main last : Label) (old new : List Part) → old ≡ [] → main ≡ main_label → last ≡ last_label → Appends old new (λ x from to. CallsMain main last x from) →

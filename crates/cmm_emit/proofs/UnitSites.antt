@@ -95,7 +95,7 @@ module _ (p : Program) (graphs : List Graph) (found : List ProcedurePlaces) (fir
   have = is.finished.done.have
 
   abbrev base : ℕ
-  base = first_own p
+  base = first_own o
 
   contexts_counted : length procs ≡ length o.contexts
   contexts_counted = sym is.is_outline.contexts.count

@@ -1,5 +1,5 @@
 -- So the image runs the program, and the text is in range.
-use Rattle.std.proofs.Common.{◌≡◌, ◌⊎◌, inl, inr, ℕ, zero, suc, ◌+◌, ◌*◌, ◌-◌, ◌%◌, ◌<◌, ◌≤◌, ◌^◌, refl, sym, ◌∙◌, ap, subst, arith, Bool, true, false, List, length, get_or, Option, Some, None, slice_get}
+use Rattle.std.proofs.Common.{◌≡◌, ◌⊎◌, inl, inr, ℕ, zero, suc, ◌+◌, ◌*◌, ◌-◌, ◌%◌, ◌<◌, ◌≤◌, ◌^◌, refl, sym, ◌∙◌, ap, subst, arith, Bool, true, false, List, [], ◌∷◌, length, get_or, Option, Some, None, slice_get}
 use Rattle.std.specs.Prelude.{◌==◌, Contains, find, is_some, nat_lt, slice_index}
 use Rattle.std.specs.List.{All, list_all}
 use Rattle.std.proofs.lemmas.Bool.{eqb-true}
@@ -65,7 +65,7 @@ use Rattle.cmm_program.specs.Layout.{data_bytes}
 use Rattle.cmm_emit_laws.specs.Represented.{IsFor, stack_region}
 use Rattle.cmm_emit.proofs.Addresses.{place_fine}
 use Rattle.cmm_emit.proofs.Belonging.{there_at}
-use Rattle.cmm_emit.proofs.Coding.{IsHere, aligned, begins_at, context_is, does, finished, here, lands, lands_inside, no_row, node_fits, node_is, of_procedure, row_found, row_of_procedure, stand_at}
+use Rattle.cmm_emit.proofs.Coding.{IsHere, aligned, begins_at, context_is, does, finished, here, lands, lands_inside, no_row, node_fits, node_is, row_found, row_of_procedure, stand_at, stands_for_reference}
 use Rattle.cmm_emit.proofs.Standing.{IsJoint, unit_of, value_in}
 use Rattle.cmm_emit.proofs.Weakening.{code_alone, code_within}
 use Rattle.cmm_emit.proofs.YieldSites.{exits_at, finds, found_at, waits_there, yields_as_many}
@@ -74,7 +74,11 @@ use Rattle.cmm_flow.specs.Waiting.{IsWaitedAt}
 use Rattle.cmm_yield_laws.specs.WholeCode.{IsYieldingCode}
 use Rattle.cmm_yield_laws.specs.Yielding.{HaveSiteExits, HaveYields}
 use Rattle.cmm_emit.specs.Premises.{AreCovered}
-use Rattle.cmm_emit.specs.Outlines.{number_symbols}
+use Rattle.cmm_unit_code.specs.declared.unit_code.Reference.{Reference}
+use Rattle.cmm_unit_code.specs.declared.unit_code.Reference.TheVariants.{Procedure}
+use Rattle.cmm_emit.proofs.Meanings.{AreMeant, targets_aligned}
+use Rattle.cmm_emit.proofs.Outlined.{IsIn}
+use Rattle.cmm_emit.proofs.Ranged.{start_meant}
 use Rattle.cmm_emit.specs.Starts.{last_label, start_labels}
 
 -- ---- what is known of the graphs
@@ -91,28 +95,6 @@ pub record AreGraphs (p : Program) (graphs : List Graph) (found : List Procedure
 
 -- ---- the code with which a run begins
 
--- its one symbol is `main`
-start_aligned : (p : Program) (value : ℕ → ℕ) → ((k : ℕ) → number_symbols p ≤ k → value k % 4 ≡ 0) → (parts : List Part) → All (Fits (start_labels p)) parts →
-    All (GoesToCode (start_labels p) value) parts
-start_aligned p value aligned parts fit i d h = part (get_or parts i d) (fit i d h)
-  where
-    target : (l : Label) → IsAligned value (meaning (start_labels p) l)
-    target l = by l.number
-      where
-        by : (n : ℕ) → IsAligned value (get_or (start_labels p) n (Inner false))
-        by zero = aligned (number_symbols p + p.main) (omega arith)
-        by (suc zero) = tt
-        by (suc (suc n)) = tt
-
-    part : (z : Part) → Fits (start_labels p) z → GoesToCode (start_labels p) value z
-    part (Single i) fits = tt
-    part (Place l) fits = tt
-    part (Branch c a b l) fits = tt
-    part (Jumping l) fits = target l
-    part (Calling l) fits = target l
-    part (Address rd l) fits = tt
-    part (Table ls) fits = tt
-
 module _ (s : Setting) (graphs : List Graph) (found : List ProcedurePlaces) (addresses : List ℕ) (t : Text)
     (known : IsJoint s.program graphs found addresses t) (graphs_are : AreGraphs s.program graphs found)
     (l : Launch) (rows : s.placement.rows ≡ placement_rows found t.procedures) (code_is : l.image.code ≡ t.code) (stands : FinishedCodeStands)
@@ -126,12 +108,13 @@ module _ (s : Setting) (graphs : List Graph) (found : List ProcedurePlaces) (add
   abbrev at_home : (q : ℕ) (g : Graph) → slice_get graphs q ≡ Some g → IsHere s.program graphs found addresses t known q g
   at_home q g is = here s.program graphs found addresses t known q g is
 
+  -- what its symbols stand for: the one is `main`
   abbrev value : ℕ → ℕ
-  value = value_in s.program addresses t
+  value = value_in addresses t known.start.code
 
   -- what the labels of the code stand for with which a run begins
   abbrev start_at : ℕ → ℕ
-  start_at = address_of (start_labels s.program) known.is_start.places code_base value
+  start_at = address_of start_labels known.is_start.places code_base value
 
   -- the same code, as these labels stand in it
   abbrev starting : Finished
@@ -181,11 +164,20 @@ module _ (s : Setting) (graphs : List Graph) (found : List ProcedurePlaces) (add
 
   -- ---- nodes and sites
 
+  -- it names what the program has
+  main_inside : (k : ℕ) (r : Reference) → slice_get known.start.code.references k ≡ Some r → IsIn s.program r
+  main_inside k r there = by k (ap (λ (rs : List Reference). slice_get rs k) (sym known.is_start.references) ∙ there)
+    where
+      by : (k : ℕ) → slice_get (Procedure s.program.main ∷ []) k ≡ Some r → IsIn s.program r
+      by zero is = let same : Procedure s.program.main ≡ r = cc in subst (IsIn s.program) same known.range.main
+      by (suc n) is = absurd (cc)
+
   -- where `main` comes back, the end of the run is requested
   start_stands : (q : ℕ) (g : Finished) → g.labels q ≡ start_at → Stand (code_of l g q) known.is_start.parts code_base (code_base + length known.start.code.code)
   start_stands q g is_labels =
-      stand_at s graphs found addresses t known l rows code_is stands q (start_labels s.program) known.is_start.parts known.is_start.places code_base known.start.code known.is_start.done known.begins
-      (start_aligned s.program value (aligned s.program graphs found addresses t known) known.is_start.parts known.is_start.done.fit) g is_labels
+      stand_at s graphs found addresses t known l rows code_is stands q start_labels known.is_start.parts known.is_start.places code_base known.start.code known.is_start.done known.begins
+      (targets_aligned known.start.code.references start_labels (subst (λ (rs : List Reference). AreMeant rs start_labels) (sym known.is_start.references) (start_meant s.program)) value
+      (aligned s.program graphs found addresses t known known.start.code) known.is_start.parts known.is_start.done.fit) main_inside g is_labels
 
   ends : (q : ℕ) → AsksFor 1 (λ u. End (u.registers 10)) (code_of l f q) t.last
   ends q =
@@ -325,7 +317,7 @@ module _ (s : Setting) (graphs : List Graph) (found : List ProcedurePlaces) (add
   last_fine : (f.symbols.last_return % 4 ≡ 0) × (f.symbols.last_return ≤ 2 ^ 30)
   last_fine =
       let start = known.is_start in
-      let place = place_fine (start_labels s.program) start.parts (length known.start.code.code) start.places start.done.have 1 in
+      let place = place_fine start_labels start.parts (length known.start.code.code) start.places start.done.have 1 in
       let four = place.0 in
       let most = place.1 in
       let same : t.last ≡ slice_index start.places 1 + code_base = known.last ∙ ap (λ (a : ℕ). a + code_base) start.last in
@@ -369,7 +361,7 @@ module _ (s : Setting) (graphs : List Graph) (found : List ProcedurePlaces) (add
       let calls = begins.calls (code_of l starting main) code_base stood.0 stood.1 in
       let from : code_base ≡ l.image.start = sym (start ∙ known.from) in
       let first : start_at 0 ≡ f.node_at main (g.0).first =
-      of_procedure s.program graphs found addresses t known (number_symbols s.program + main) main refl
+      stands_for_reference s.program graphs found addresses t known known.start.code 0 (Procedure main) (ap (λ (rs : List Reference). slice_get rs 0) known.is_start.references)
       ∙ (begins_at s.program graphs found addresses t known main g.0 this ∙ sym (node_is s.program graphs found addresses t known main g.0 this (g.0).first.number)) in
       let back : start_at 1 ≡ t.last = sym (known.last ∙ ap (λ (a : ℕ). a + code_base) known.is_start.last) in
       let goes = goes_weaker calls (omega arith) (omega arith) (λ u. f.node_at main (g.0).first) (λ u sound. first)

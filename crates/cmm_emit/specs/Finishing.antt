@@ -29,6 +29,7 @@ pub record AreFinished (labels : List Meaning) (parts : List Part) (places : Lis
 pub record IsFinished (labels : List Meaning) (parts : List Part) (o : Outline) (u : UnitCode) : Type 0 where
   pub places : List ℕ
   pub done : AreFinished labels parts places u
+  pub references : u.references ≡ o.references
   pub procedures : u.procedures ≡ places_at places o.entries
   pub landings : u.landings ≡ map (λ c. places_at places c.landings) o.contexts
   pub sites : u.sites ≡ map (λ c. places_at places c.sites) o.contexts

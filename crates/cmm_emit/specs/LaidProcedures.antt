@@ -5,7 +5,7 @@ use Rattle.rv_asm.specs.Appending.{Codes}
 use Rattle.rv_asm.specs.Assembly.{is_inner}
 use Rattle.rv_asm.specs.Sizes.{all_longest}
 use Rattle.rv_asm.specs.declared.part.Meaning.{Meaning}
-use Rattle.rv_asm.specs.declared.part.Meaning.TheVariants.{Inner}
+use Rattle.rv_asm.specs.declared.part.Meaning.TheVariants.{Inner, Outer}
 use Rattle.rv_asm.specs.declared.part.Part.{Part}
 use Rattle.rv_asm.specs.declared.part.Part.TheVariants.{Place}
 use Rattle.rv_table.specs.declared.request.Request.TheVariants.{StackLimit, Yield}
@@ -21,11 +21,13 @@ use Rattle.cmm_emit.specs.declared.context.Context.{Context}
 use Rattle.cmm_emit.specs.declared.context.Targets.{Targets}
 use Rattle.cmm_emit.specs.Costs.{total_cost}
 use Rattle.cmm_emit.specs.LaidNodes.{StandsHere, WaitApart}
+use Rattle.cmm_unit_code.specs.declared.unit_code.Reference.{Reference}
+use Rattle.cmm_emit.specs.Labels.{is_reached}
 use Rattle.cmm_emit.specs.Naming.{has_kind, label_at}
 use Rattle.cmm_emit.specs.Standing.{SiteStands}
 use Rattle.cmm_emit.specs.Contexts.{first_label}
 use Rattle.cmm_emit.specs.Orders.{AreInOrder, IsClosed}
-use Rattle.cmm_emit.specs.Outlines.{IsOutlineIn, first_own, own, symbol_count, symbol_meaning}
+use Rattle.cmm_emit.specs.Outlines.{IsOutlineIn, first_own, own}
 use Rattle.cmm_emit.specs.declared.outline.Outline.{Outline}
 
 -- ---- before
@@ -62,18 +64,26 @@ pub record HasOutline (p : Program) (graphs : List Graph) (o : Outline) : Type 0
 
 -- ---- while n procedures are laid
 
+-- each of what is named has a label, the symbol of its place
+abbrev pub AreSymbolsIn : List Reference → List Meaning → Type 0
+AreSymbolsIn references labels = (k : ℕ) (r : Reference) → slice_get references k ≡ Some r → slice_get labels k ≡ Some (Outer k (is_reached r))
+
+-- from one on, labels are places in the code
+abbrev pub AreInnerFrom : ℕ → List Meaning → Type 0
+AreInnerFrom first labels = (k : ℕ) → first ≤ k → k < length labels → IsTrue (is_inner (slice_index_or labels k (Inner false)))
+
 -- what labels mean then: those of the other procedures, of the limit and of the call of the client have no place yet, and behind the labels of all
 -- procedures stand those that code made for itself
-pub record HaveLabels (p : Program) (procs : List Proc) (graphs : List Graph) (n : ℕ) (labels : List Meaning) : Type 0 where
-  pub count : first_label (first_own p) procs graphs (length procs) ≤ length labels
-  pub symbols : (k : ℕ) → k < symbol_count p → slice_get labels k ≡ Some (symbol_meaning p k)
-  pub limit : slice_get labels (symbol_count p) ≡ Some (Inner false)
-  pub client : slice_get labels (symbol_count p + 1) ≡ Some (Inner false)
-  pub inner : (k : ℕ) → symbol_count p ≤ k → k < length labels → IsTrue (is_inner (slice_index_or labels k (Inner false)))
-  pub fresh : (k : ℕ) → first_label (first_own p) procs graphs n ≤ k → k < first_label (first_own p) procs graphs (length procs) → slice_get labels k ≡ Some (Inner false)
+pub record HaveLabels (procs : List Proc) (graphs : List Graph) (o : Outline) (n : ℕ) (labels : List Meaning) : Type 0 where
+  pub count : first_label (first_own o) procs graphs (length procs) ≤ length labels
+  pub symbols : AreSymbolsIn o.references labels
+  pub limit : slice_get labels (length o.references) ≡ Some (Inner false)
+  pub client : slice_get labels (length o.references + 1) ≡ Some (Inner false)
+  pub inner : AreInnerFrom (length o.references) labels
+  pub fresh : (k : ℕ) → first_label (first_own o) procs graphs n ≤ k → k < first_label (first_own o) procs graphs (length procs) → slice_get labels k ≡ Some (Inner false)
 
 abbrev pub HaveLabelsIn : Program → List Graph → Outline → ℕ → List Meaning → Type 0
-HaveLabelsIn p graphs o n labels = HaveLabels p (own o p.procs) (own o graphs) n labels
+HaveLabelsIn p graphs o n labels = HaveLabels (own o p.procs) (own o graphs) o n labels
 
 -- the tokens of the first procedures of a unit
 abbrev pub tokens_of_first : ℕ → List Proc → ℕ
@@ -95,10 +105,10 @@ HaveCodesIn p graphs o n parts = HaveCodes (own o p.procs) (own o graphs) o n pa
 -- ---- the whole
 
 -- behind all procedures, the run ends at the limit of the stack, and the client is called; and there is no more of it than tokens allow
-pub record IsWhole (p : Program) (procs : List Proc) (graphs : List Graph) (o : Outline) (labels : List Meaning) (parts : List Part) : Type 0 where
-  pub count : first_label (first_own p) procs graphs (length procs) ≤ length labels
-  pub symbols : (k : ℕ) → k < symbol_count p → slice_get labels k ≡ Some (symbol_meaning p k)
-  pub inner : (k : ℕ) → symbol_count p ≤ k → k < length labels → IsTrue (is_inner (slice_index_or labels k (Inner false)))
+pub record IsWhole (procs : List Proc) (graphs : List Graph) (o : Outline) (labels : List Meaning) (parts : List Part) : Type 0 where
+  pub count : first_label (first_own o) procs graphs (length procs) ≤ length labels
+  pub symbols : AreSymbolsIn o.references labels
+  pub inner : AreInnerFrom (length o.references) labels
   pub front : List Part
   pub codes : HaveCodes procs graphs o (length procs) front
   pub back : List Part
@@ -108,4 +118,4 @@ pub record IsWhole (p : Program) (procs : List Proc) (graphs : List Graph) (o : 
   pub size : all_longest parts ≤ 256 * sum_by (λ q. q.tokens) procs + 16
 
 abbrev pub IsWholeIn : Program → List Graph → Outline → List Meaning → List Part → Type 0
-IsWholeIn p graphs o labels parts = IsWhole p (own o p.procs) (own o graphs) o labels parts
+IsWholeIn p graphs o labels parts = IsWhole (own o p.procs) (own o graphs) o labels parts

@@ -4,6 +4,8 @@ pub mod Standing
 pub mod LaidNodes
 pub mod Laws
 pub mod Labels
+pub mod Mentions
+pub mod Symbols
 pub mod Contexts
 pub mod Outlines
 pub mod Starts

@@ -1,5 +1,5 @@
 -- What code has for what nodes name: places of the activation, offsets of its frame, and labels.
-use Rattle.std.specs.Prelude.{◌≡◌, ℕ, ◌+◌, ◌<◌, ◌^◌, ◌&&◌, nat_le, nat_lt, Bool, true, List, length, map, slice_index_or, Some, None}
+use Rattle.std.specs.Prelude.{◌≡◌, ℕ, ◌+◌, ◌^◌, ◌&&◌, nat_le, nat_lt, Bool, true, IsTrue, List, length, map, is_some, slice_index_or, Option, Some, None}
 use Rattle.std.specs.List.{list_all}
 use Rattle.cmm_words.specs.declared.constant.Constant.{Constant}
 use Rattle.cmm_words.specs.declared.constant.Constant.TheVariants as constant
@@ -43,6 +43,13 @@ use Rattle.cmm_emit.specs.declared.context.Targets.{Targets}
 -- a label of a list, by its number
 abbrev pub label_at : List Label → ℕ → Label
 label_at labels n = slice_index_or labels n (record { number = 0 })
+
+-- what is named outside of a procedure has a label, by its number
+abbrev pub has_named : List (Option Label) → ℕ → Bool
+has_named labels n = is_some (slice_index_or labels n None)
+
+abbrev pub named_at : List (Option Label) → ℕ → Label
+named_at labels n = elim (slice_index_or labels n None) [ Some l ↦ l | None ↦ record { number = 0 } ]
 
 module _ (p : Context) where
   -- the number of a local: temporaries come after variables
@@ -94,20 +101,20 @@ module _ (p : Context) where
 module _ (y : Targets) where
   abbrev pub constant_operand : Constant → CodeOperand
   constant_operand (constant.Number n width) = code.Held (source.Number n)
-  constant_operand (constant.Code k plus) = code.Symbol (label_at y.procedures k) plus
-  constant_operand (constant.Address k plus) = code.Symbol (label_at y.data_labels k) plus
+  constant_operand (constant.Code k plus) = code.Symbol (named_at y.procedures k) plus
+  constant_operand (constant.Address k plus) = code.Symbol (named_at y.data_labels k) plus
 
   abbrev pub has_constant : Constant → Bool
   has_constant (constant.Number n width) = nat_lt n (2 ^ 64)
-  has_constant (constant.Code k plus) = nat_lt k (length y.procedures)
-  has_constant (constant.Address k plus) = nat_lt k (length y.data_labels)
+  has_constant (constant.Code k plus) = has_named y.procedures k
+  has_constant (constant.Address k plus) = has_named y.data_labels k
 
   -- a label that an operand names: that of a procedure
   pub record IsNamed (callee : Operand) (to : Label) : Type 0 where
     pub procedure : ℕ
     pub is : callee ≡ operand.Constant (constant.Code procedure 0)
-    pub there : procedure < length y.procedures
-    pub is_label : to ≡ label_at y.procedures procedure
+    pub there : IsTrue (has_named y.procedures procedure)
+    pub is_label : to ≡ named_at y.procedures procedure
 
 module _ (p : Context) (y : Targets) where
   -- ---- operands
@@ -142,7 +149,7 @@ module _ (p : Context) (y : Targets) where
 
   abbrev pub target_destination : Target → CodeDestination
   target_destination (target.Variable number width) = into.Place (place p (local.Variable (record { number = number })))
-  target_destination (target.Register number width) = into.Register (label_at y.registers number)
+  target_destination (target.Register number width) = into.Register (named_at y.registers number)
 
   abbrev pub code_destination : Destination → CodeDestination
   code_destination (destination.Target t) = target_destination t
@@ -150,7 +157,7 @@ module _ (p : Context) (y : Targets) where
 
   abbrev pub has_target : Target → Bool
   has_target (target.Variable number width) = has_local p (local.Variable (record { number = number }))
-  has_target (target.Register number width) = nat_lt number (length y.registers)
+  has_target (target.Register number width) = has_named y.registers number
 
   abbrev pub has_destination : Destination → Bool
   has_destination (destination.Target t) = has_target t
@@ -158,7 +165,7 @@ module _ (p : Context) (y : Targets) where
 
   abbrev pub has_rvalue : Rvalue → Bool
   has_rvalue (rvalue.Copy o) = has_operand o
-  has_rvalue (rvalue.Register r) = nat_lt r.number (length y.registers)
+  has_rvalue (rvalue.Register r) = has_named y.registers r.number
   has_rvalue (rvalue.Load width aligned o) = has_operand o
   has_rvalue (rvalue.Unary operator width o) = has_operand o
   has_rvalue (rvalue.Binary operator width left right) = has_operand left && has_operand right

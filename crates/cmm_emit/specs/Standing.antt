@@ -42,11 +42,11 @@ use Rattle.cmm_yield_laws.specs.Yielding.{YieldCode}
 use Rattle.cmm_emit.specs.declared.context.Context.{Context}
 use Rattle.cmm_emit.specs.declared.context.Targets.{Targets}
 use Rattle.cmm_emit.specs.Costs.{callee_cost, cost_of, jump_cost, rvalue_cost}
-use Rattle.cmm_emit.specs.Naming.{has_local, label_at, landing_labels, local_number, site_label}
+use Rattle.cmm_emit.specs.Naming.{has_local, has_named, label_at, landing_labels, local_number, named_at, site_label}
 
 -- ---- while code is assembled
 
--- labels are made for all that nodes name, places can be read and written, and the frame can be made. A procedure's label may stand for a place in
+-- labels are made for what nodes name, places can be read and written, and the frame can be made. A procedure's label may stand for a place in
 -- the code, or for a symbol that is reached from where the code stands, as that of a procedure elsewhere.
 pub record IsReady (labels : List Meaning) (p : Context) (y : Targets) : Type 0 where
   pub frame : CanBeMade p.frame
@@ -56,9 +56,9 @@ pub record IsReady (labels : List Meaning) (p : Context) (y : Targets) : Type 0 
   pub landings : All (IsInner labels) p.landings
   pub landed : length p.landings ≡ length p.frame.pairs
   pub nodes : All (IsInner labels) p.nodes
-  pub procedures : All (IsTarget labels) y.procedures
-  pub data_labels : All (IsLabel labels) y.data_labels
-  pub registers : All (IsLabel labels) y.registers
+  pub procedures : (k : ℕ) → IsTrue (has_named y.procedures k) → IsTarget labels (named_at y.procedures k)
+  pub data_labels : (k : ℕ) → IsTrue (has_named y.data_labels k) → IsLabel labels (named_at y.data_labels k)
+  pub registers : (k : ℕ) → IsTrue (has_named y.registers k) → IsLabel labels (named_at y.registers k)
   pub few_registers : length y.registers ≤ 256
   pub limit : IsInner labels y.limit
   pub client : IsInner labels y.client
@@ -103,12 +103,12 @@ module _ (s : Setting) (c : Compiled) (l : Launch) (f : Finished) (q : ℕ) wher
     pub numbers : (v : Local) → IsTrue (has_local p v) → number_in c.graphs q v ≡ local_number p v
     pub zeroed : map (c.plan.place q) (c.zeroed q) ≡ p.zeroed
     pub nodes : (n : NodeId) → n.number < length p.nodes → f.labels q (label_of p.nodes n).number ≡ f.node_at q n
-    pub procedures : (k plus : ℕ) → k < length y.procedures →
-        sum (f.labels q (label_at y.procedures k).number) plus ≡ constant_value s.program s.placement (constant.Code k plus)
-    pub entries : (k : ℕ) → k < length y.procedures → f.labels q (label_at y.procedures k).number ≡ constant_value s.program s.placement (constant.Code k 0)
-    pub data_labels : (k plus : ℕ) → k < length y.data_labels →
-        sum (f.labels q (label_at y.data_labels k).number) plus ≡ constant_value s.program s.placement (constant.Address k plus)
-    pub registers : (k : ℕ) → k < length y.registers → IsRegister s c l f q k (label_at y.registers k)
+    pub procedures : (k plus : ℕ) → IsTrue (has_named y.procedures k) →
+        sum (f.labels q (named_at y.procedures k).number) plus ≡ constant_value s.program s.placement (constant.Code k plus)
+    pub entries : (k : ℕ) → IsTrue (has_named y.procedures k) → f.labels q (named_at y.procedures k).number ≡ constant_value s.program s.placement (constant.Code k 0)
+    pub data_labels : (k plus : ℕ) → IsTrue (has_named y.data_labels k) →
+        sum (f.labels q (named_at y.data_labels k).number) plus ≡ constant_value s.program s.placement (constant.Address k plus)
+    pub registers : (k : ℕ) → IsTrue (has_named y.registers k) → IsRegister s c l f q k (named_at y.registers k)
     pub landings : AreLandings f.symbols (f.labels q) q 0 p.landings
     pub landed : (k : ℕ) (n : NodeId) → k < length p.landings → landing_in c.graphs q k ≡ Some n → f.labels q (label_at p.landings k).number ≡ f.node_at q n
     pub sites : (k : ℕ) → k < length p.sites → IsSiteOf k (label_at p.sites k)

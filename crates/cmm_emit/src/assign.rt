@@ -10,7 +10,7 @@ ghost use Rattle.cmm_emit.specs.Naming.{has_both, has_destination, has_rvalue};
 ghost use Rattle.cmm_emit.specs.Standing.{CodesNode, IsReady, PutsValue};
 ghost use Rattle.cmm_select.specs.Destinations.{IsDestination};
 
-use crate::context::{Context, Targets};
+use crate::context::{Context, Targets, named_at};
 use crate::operand::{code_destination, code_operand};
 use cmm_graph::{Comparison, Destination, Rvalue};
 use cmm_select::{
@@ -60,7 +60,7 @@ fn put_value(
             Ok(())
         }
         Rvalue::Register(register) => {
-            let from = targets.registers.as_slice()[register.number as usize];
+            let from = named_at(targets.registers.as_slice(), register.number);
             assign_global(asm, from, into)?;
             Ok(())
         }

@@ -1,5 +1,8 @@
 //! What the code of nodes is made over.
 
+ghost use Rattle.std.specs.Prelude.{◌≡◌};
+ghost use Rattle.cmm_emit.specs.Naming.{named_at};
+
 use cmm_chain::{Frame, Location};
 use cmm_items::Items;
 use rv_asm::Label;
@@ -22,17 +25,27 @@ pub struct Context {
     pub sites: Items<Label>,
 }
 
-/// The labels of a program, for what its nodes name outside of their procedure.
+/// The labels of a unit, for what its nodes name outside of their procedure: of each number of the program, where the unit names it or has it.
 #[derive(Drop)]
 pub struct Targets {
     /// The code of each procedure.
-    pub procedures: Items<Label>,
+    pub procedures: Items<Option<Label>>,
     /// The address of each data label.
-    pub data_labels: Items<Label>,
+    pub data_labels: Items<Option<Label>>,
     /// The offset of each global register in its region.
-    pub registers: Items<Label>,
+    pub registers: Items<Option<Label>>,
     /// Where a run is ended for want of room in the stack.
     pub limit: Label,
     /// Where the client is called.
     pub client: Label,
+}
+
+/// The label of what is named, by its number in the program.
+pub(crate) fn named_at(labels: &[Option<Label>], number: u32) -> Label
+    ensures { result ≡ named_at labels.now number }
+{
+    match labels.get(number as usize) {
+        Some(Some(label)) => *label,
+        _ => Label { number: 0 },
+    }
 }

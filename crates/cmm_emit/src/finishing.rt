@@ -72,8 +72,10 @@ pub fn finish_unit(alloc: Global, asm: Asm, outline: &Outline) -> Result<UnitCod
     let procedures = places_of(alloc, places, outline.entries.as_slice())?;
     let landings = landings_of(alloc, places, outline.contexts.as_slice())?;
     let sites = sites_of(alloc, places, outline.contexts.as_slice())?;
+    let references = Items::from_slice(alloc, outline.references.as_slice())?;
     Ok(UnitCode {
         code: placed.bytes,
+        references,
         fixes: placed.fixes,
         procedures,
         landings,

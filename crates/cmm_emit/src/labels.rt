@@ -2,7 +2,7 @@
 
 ghost use Rattle.std.specs.Prelude.{◌≡◌, ◌+◌, ◌<◌, ◌≤◌, ◌^◌, ◌∷◌, [], ◌++◌, false, length, replicate, IfOk, OnOk};
 ghost use Rattle.rv_asm.specs.declared.part.Meaning.TheVariants.{Inner};
-ghost use Rattle.cmm_emit.specs.Labels.{labels_from, symbol_labels};
+ghost use Rattle.cmm_emit.specs.Labels.{labels_from};
 
 use cmm_items::Items;
 use rv_asm::{Asm, Label};
@@ -19,19 +19,6 @@ pub fn label(asm: &mut Asm) -> Result<Label, AllocError>
     Ok(made)
 }
 
-/// Makes a label for the symbol that has the label's own number: for a number outside of the code, or for code that is reached from where this code stands. An error is
-/// want of memory.
-fn symbol(asm: &mut Asm, relative: bool) -> Result<Label, AllocError>
-    requires { length asm.old.labels < 2 ^ 32 }
-    ensures number { IfOk result (λ made. made ≡ record { number = length asm.old.labels }) }
-    ensures labels { OnOk result (asm.new.labels ≡ asm.old.labels ++ symbol_labels relative (length asm.old.labels) 1) }
-    ensures parts { asm.new.parts ≡ asm.old.parts }
-{
-    let number = asm.label_count();
-    let made = asm.outer(number as u32, relative)?;
-    Ok(made)
-}
-
 /// Makes `count` labels for places in the code. An error is want of memory.
 pub fn labels(asm: &mut Asm, alloc: Global, count: usize) -> Result<Items<Label>, AllocError>
     requires { length asm.old.labels + count ≤ 2 ^ 32 }
@@ -42,25 +29,6 @@ pub fn labels(asm: &mut Asm, alloc: Global, count: usize) -> Result<Items<Label>
     let mut made = Items::new(alloc);
     for _ in 0..count {
         made.push(label(asm)?)?;
-    }
-    Ok(made)
-}
-
-/// Makes `count` labels for symbols, each with the label's own number. An error is want of memory.
-pub fn symbols(
-    asm: &mut Asm,
-    alloc: Global,
-    count: usize,
-    relative: bool,
-) -> Result<Items<Label>, AllocError>
-    requires { length asm.old.labels + count ≤ 2 ^ 32 }
-    ensures made { IfOk result (λ made. made ≡ labels_from (length asm.old.labels) count) }
-    ensures labels { OnOk result (asm.new.labels ≡ asm.old.labels ++ symbol_labels relative (length asm.old.labels) count) }
-    ensures parts { asm.new.parts ≡ asm.old.parts }
-{
-    let mut made = Items::new(alloc);
-    for _ in 0..count {
-        made.push(symbol(asm, relative)?)?;
     }
     Ok(made)
 }

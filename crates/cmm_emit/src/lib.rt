@@ -10,6 +10,7 @@
 //!
 //! - `program`: `lay_program`. `units`: the code of each unit. `finishing`: the bytes of a unit, and the places in them. `start`: the code with which a run
 //!   begins and ends, and that by which the client is called.
+//! - `mentions`: what nodes name. `symbols`: the labels of what a unit names that is not in its code.
 //! - `labels`: labels that are made one after another. `contexts`: the tables of each procedure. `outline`: those of a unit.
 //! - `procedure_code`: the procedures of a unit. `node_code`: the order in which nodes stand in code.
 //! - `context`: the tables by which nodes become code. `operand`: the operands of code for those of nodes.
@@ -26,12 +27,14 @@ mod contexts;
 mod finishing;
 mod labels;
 pub mod laws;
+mod mentions;
 mod node_code;
 mod operand;
 mod outline;
 mod procedure_code;
 mod program;
 mod start;
+mod symbols;
 mod transfer;
 mod units;
 mod yielding;

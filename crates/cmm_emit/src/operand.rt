@@ -5,7 +5,7 @@ ghost use Rattle.std.specs.List.{list_all};
 ghost use Rattle.cmm_graph.specs.declared.operand.Local.TheVariants as local;
 ghost use Rattle.cmm_emit.specs.Naming.{argument_operands, code_destination, code_operand, code_operands, constant_operand, has_argument, has_constant, has_destination, has_landing, has_local, has_operand, has_target, landing_labels, place, target_destination, target_destinations, variable_places};
 
-use crate::context::{Context, Targets};
+use crate::context::{Context, Targets, named_at};
 use cmm_chain::Location;
 use cmm_graph::{Argument, ContinuationId, Destination, Local, Operand, Variable};
 use cmm_items::Items;
@@ -35,11 +35,11 @@ fn constant_operand(targets: &Targets, constant: Constant) -> CodeOperand
     match constant {
         Constant::Number(number, _) => CodeOperand::Held(Source::Number(number)),
         Constant::Code { proc, plus } => CodeOperand::Symbol {
-            of: targets.procedures.as_slice()[proc as usize],
+            of: named_at(targets.procedures.as_slice(), proc),
             plus,
         },
         Constant::Address { label, plus } => CodeOperand::Symbol {
-            of: targets.data_labels.as_slice()[label as usize],
+            of: named_at(targets.data_labels.as_slice(), label),
             plus,
         },
     }
@@ -76,7 +76,7 @@ pub(crate) fn target_destination(
             CodeDestination::Place(place_of(context, Local::Variable(Variable { number })))
         }
         Target::Register(number, _) => {
-            CodeDestination::Register(targets.registers.as_slice()[number as usize])
+            CodeDestination::Register(named_at(targets.registers.as_slice(), number))
         }
     }
 }

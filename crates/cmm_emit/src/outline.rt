@@ -1,18 +1,20 @@
 //! The labels of a unit, and what its code is made over.
 
-ghost use Rattle.std.specs.Prelude.{◌≡◌, ◌+◌, ◌≤◌, ◌^◌, ◌++◌, [], false, true, length, replicate, IfOk, OnOk};
+ghost use Rattle.std.specs.Prelude.{◌≡◌, ◌+◌, ◌≤◌, ◌^◌, ◌++◌, [], false, length, replicate, IfOk};
 ghost use Rattle.rv_asm.specs.declared.part.Meaning.TheVariants.{Inner};
 ghost use Rattle.cmm_emit.specs.Contexts.{first_label};
 ghost use Rattle.cmm_emit.specs.Labels.{symbol_labels};
-ghost use Rattle.cmm_emit.specs.Outlines.{IsOutlineIn, first_own, number_symbols, share, with_own};
+ghost use Rattle.cmm_emit.specs.Outlines.{IsOutlineIn, share, symbol_count, with_own};
 
 use crate::context::{Context, Targets};
 use crate::contexts::{contexts, entry_labels};
-use crate::labels::{label, symbols};
+use crate::labels::label;
+use crate::symbols::{Symbols, make_symbols};
 use cmm_allocate::ProcedurePlaces;
 use cmm_graph::Graph;
 use cmm_items::Items;
 use cmm_program::Program;
+use cmm_unit_code::Reference;
 use rv_asm::{Asm, Label};
 use std::alloc::{AllocError, Global};
 
@@ -21,6 +23,8 @@ use std::alloc::{AllocError, Global};
 pub struct Outline {
     /// The number of its first procedure in the program. The others follow.
     pub first: usize,
+    /// What it names that is not in its code. The label of each has the number of its place here.
+    pub references: Items<Reference>,
     /// For each of its procedures.
     pub contexts: Items<Context>,
     /// Where the code of each of them begins.
@@ -28,23 +32,25 @@ pub struct Outline {
     pub targets: Targets,
 }
 
-/// The labels of all procedures: those of a unit, from one on, are in its code. An error is want of memory.
+/// The labels of procedures: those of a unit, from one on, are in its code. An error is want of memory.
 fn with_own(
     alloc: Global,
     first: usize,
     entries: &[Label],
-    others: &[Label],
-) -> Result<Items<Label>, AllocError>
+    others: &[Option<Label>],
+) -> Result<Items<Option<Label>>, AllocError>
     requires { first + length entries.now ≤ length others.now }
     ensures { IfOk result (λ labels. labels ≡ with_own first entries.now others.now) }
 {
     let mut labels = Items::from_slice(alloc, &others[..first])?;
-    labels.append(Items::from_slice(alloc, entries)?)?;
+    for entry in entries {
+        labels.push(Some(*entry))?;
+    }
     labels.append(Items::from_slice(alloc, &others[first + entries.len()..])?)?;
     Ok(labels)
 }
 
-/// Makes the labels of a unit that has `count` procedures of a program, from one on: first those of global registers, of data and of all procedures, as symbols; then that of
+/// Makes the labels of a unit that has `count` procedures of a program, from one on: first those of what it names that is not in its code, as symbols; then that of
 /// the stack's limit, that of the call of the client, and those of each of its own procedures. An error is want of memory.
 pub fn make_outline(
     asm: &mut Asm,
@@ -59,22 +65,19 @@ pub fn make_outline(
     requires graphs { length graphs.now ≡ length program.now.procs }
     requires places { length places.now ≡ length program.now.procs }
     requires within { first + count ≤ length program.now.procs }
-    requires few { first_label (first_own program.now) (share first count program.now.procs) (share first count graphs.now) count ≤ 2 ^ 32 }
+    requires few { first_label (symbol_count program.now + 2) (share first count program.now.procs) (share first count graphs.now) count ≤ 2 ^ 32 }
     ensures made { IfOk result (λ o. IsOutlineIn program.now graphs.now places.now o) }
     ensures first { IfOk result (λ o. o.first ≡ first) }
     ensures count { IfOk result (λ o. length o.contexts ≡ count) }
-    ensures labels { OnOk result (asm.new.labels ≡ symbol_labels false 0 (number_symbols program.now)
-        ++ (symbol_labels true (number_symbols program.now) (length program.now.procs)
-        ++ replicate (first_label 2 (share first count program.now.procs) (share first count graphs.now) count) (Inner false))) }
+    ensures labels { IfOk result (λ o. asm.new.labels ≡ symbol_labels o.references
+        ++ replicate (first_label 2 (share first count program.now.procs) (share first count graphs.now) count) (Inner false)) }
     ensures parts { asm.new.parts ≡ asm.old.parts }
 {
-    let registers = symbols(asm, alloc, program.globals.len(), false)?;
-    let data_labels = symbols(asm, alloc, program.labels.len(), false)?;
-    let others = symbols(asm, alloc, program.procs.len(), true)?;
-    let limit = label(asm)?;
-    let client = label(asm)?;
     let end = first + count;
     let own_graphs = &graphs[first..end];
+    let symbols = make_symbols(asm, alloc, program, own_graphs, first, count)?;
+    let limit = label(asm)?;
+    let client = label(asm)?;
     let contexts = contexts(
         asm,
         alloc,
@@ -83,7 +86,18 @@ pub fn make_outline(
         &places[first..end],
     )?;
     let entries = entry_labels(alloc, contexts.as_slice(), own_graphs)?;
-    let procedures = with_own(alloc, first, entries.as_slice(), others.as_slice())?;
+    let procedures = with_own(
+        alloc,
+        first,
+        entries.as_slice(),
+        symbols.procedures.as_slice(),
+    )?;
+    let Symbols {
+        references,
+        registers,
+        data_labels,
+        ..
+    } = symbols;
     let targets = Targets {
         procedures,
         data_labels,
@@ -93,6 +107,7 @@ pub fn make_outline(
     };
     Ok(Outline {
         first,
+        references,
         contexts,
         entries,
         targets,

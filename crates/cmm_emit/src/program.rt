@@ -13,6 +13,7 @@ ghost use Rattle.cmm_unit_code.specs.declared.text.Text.{Text};
 ghost use Rattle.cmm_allocate.specs.Places.{HavePlaces};
 ghost use Rattle.cmm_emit.specs.Premises.{AreCovered, AreShort};
 ghost use Rattle.cmm_emit.specs.Texts.{IsCodeOfProgram};
+ghost use Rattle.cmm_emit.specs.Units.{NamesWhatItUses};
 
 use crate::start::start_code;
 use crate::units::unit_codes;
@@ -23,7 +24,7 @@ use cmm_unit_code::ProgramCode;
 use std::alloc::{AllocError, Global};
 
 /// The code of a program whose procedures stand unit by unit, with these graphs and places: first that with which a run begins, which calls `main`, and then that of each unit that has a
-/// procedure. Joined to one text, it is all that is required of the code of the program. An error is want of memory.
+/// procedure. Each lists what it names that is not in it, and nothing else. Joined to one text, it is all that is required of the code of the program. An error is want of memory.
 pub fn lay_program(
     alloc: Global,
     program: &Program,
@@ -39,6 +40,7 @@ pub fn lay_program(
     requires labels { length program.now.labels ≤ token_limit }
     ensures can { IfOk result CanBeJoined }
     ensures text { IfOk result (λ code. (t : Text) → IsTextOf program.now code t → IsText program.now t) }
+    ensures names { IfOk result (NamesWhatItUses program.now graphs.now) }
     ensures size { IfOk result (λ code. (t : Text) → IsTextOf program.now code t → length t.code ≤ code_bound (sum_by (λ q. q.tokens) program.now.procs)) }
     ensures code { IfOk result (λ code. (t : Text) → IsTextOf program.now code t → IsCodeOfProgram program.now graphs.now places.now t) }
 {

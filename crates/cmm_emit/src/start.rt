@@ -11,8 +11,6 @@ ghost use Rattle.rv_table.specs.declared.instruction.Instr.TheVariants.{Ebreak};
 ghost use Rattle.rv_table.specs.declared.request.Request.TheVariants as request;
 ghost use Rattle.cmm_effects.specs.Requests.{AsksFor};
 ghost use Rattle.cmm_abi.specs.declared.registers.TheConstants.{REQUEST_VALUE};
-ghost use Rattle.cmm_program.specs.InRange.{IsInRange};
-ghost use Rattle.cmm_program.specs.Limits.{token_limit};
 ghost use Rattle.cmm_emit.specs.Starts.{CallsMain, IsStart};
 ghost use Rattle.cmm_emit.specs.Orders.{IsClosed};
 
@@ -20,7 +18,7 @@ use crate::finishing::place;
 use cmm_calls::{ask_client, ask_end, ask_limit};
 use cmm_items::Items;
 use cmm_program::Program;
-use cmm_unit_code::UnitCode;
+use cmm_unit_code::{Reference, UnitCode};
 use rv_asm::{Asm, Label};
 use rv_table::Instr;
 use std::alloc::{AllocError, Global};
@@ -86,21 +84,21 @@ pub struct Start {
     pub last: u64,
 }
 
-/// The code with which a run of a program begins: it calls `main`, a symbol as all procedures are. An error is want of memory.
+/// The code with which a run of a program begins: it calls `main`, which is all that it names. An error is want of memory.
 pub fn start_code(alloc: Global, program: &Program) -> Result<Start, AllocError>
-    requires range { IsInRange program.now }
-    requires labels { length program.now.labels ≤ token_limit }
     ensures { IfOk result (IsStart program.now) }
 {
+    let mut references = Items::new(alloc);
+    references.push(Reference::Procedure(program.main))?;
     let mut asm = Asm::new(alloc);
-    let before = program.globals.len() + program.labels.len();
-    let main = asm.outer(before as u32 + program.main, true)?;
+    let main = asm.outer(0, true)?;
     let last = asm.label()?;
     lay_start(&mut asm, main, last)?;
     let placed = asm.finish(0)?;
     let last = place(placed.places.as_slice(), last);
     let code = UnitCode {
         code: placed.bytes,
+        references,
         fixes: placed.fixes,
         procedures: Items::new(alloc),
         landings: Items::new(alloc),

@@ -9,7 +9,7 @@ ghost use Rattle.cmm_emit.specs.Costs.{begin_cost, copy_cost, cut_cost, jump_to_
 ghost use Rattle.cmm_emit.specs.Naming.{IsNamed, can_begin, can_go_to, can_land, can_return, has_operand};
 ghost use Rattle.cmm_emit.specs.Standing.{CodesNode, CodesOwn, IsReady};
 
-use crate::context::{Context, Targets};
+use crate::context::{Context, Targets, named_at};
 use crate::operand::{argument_operands, code_operand, target_destinations, variable_places};
 use cmm_calls::{begin, copy_in, cut, jump, jump_by, return_values};
 use cmm_graph::{Argument, Operand, Variable};
@@ -92,7 +92,7 @@ pub(crate) fn named_label(context: &Context, targets: &Targets, callee: Operand)
         return None;
     };
     if plus == 0 {
-        return Some(targets.procedures.as_slice()[proc as usize]);
+        return Some(named_at(targets.procedures.as_slice(), proc));
     }
     None
 }

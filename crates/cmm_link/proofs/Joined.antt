@@ -8,7 +8,8 @@ use Rattle.std.proofs.lemmas.Option.{get_or_from_slice_get, slice_get_within}
 use Rattle.rv_table.specs.Memory.{code_base}
 use Rattle.rv_asm.specs.Filling.{filled}
 use Rattle.rv_asm.specs.declared.filling.CodeFix.{CodeFix}
-use Rattle.cmm_unit_code.specs.Joined.{IsWhole, joined_code, landing_addresses, procedure_addresses, site_addresses}
+use Rattle.cmm_unit_code.specs.Joined.{IsWhole, joined_code, landing_addresses, procedure_addresses, site_addresses, symbol_value}
+use Rattle.cmm_unit_code.specs.declared.unit_code.Reference.{Reference}
 use Rattle.cmm_unit_code.specs.declared.unit_code.UnitCode.{UnitCode}
 
 -- the fixes before the next index
@@ -70,9 +71,9 @@ pub sites_more : (us : List UnitCode) (i at : ℕ) (u : UnitCode) (found next : 
     next ≡ site_addresses code_base (take (i + 1) us)
 sites_more = more (λ at u. map (λ offsets. map (λ offset. at + offset) offsets) u.sites) site_addresses (λ at. refl) (λ at u us. refl)
 
-pub code_pushed : (value : ℕ → ℕ) (us : List UnitCode) (u : UnitCode) →
-    joined_code value code_base (us ++ u ∷ []) ≡ joined_code value code_base us ++ filled value (code_base + size us) u.fixes u.code
-code_pushed value = pushed (λ at u. filled value at u.fixes u.code) (joined_code value) (λ at. refl) (λ at u us. refl) code_base
+pub code_pushed : (value : Reference → ℕ) (us : List UnitCode) (u : UnitCode) →
+    joined_code value code_base (us ++ u ∷ []) ≡ joined_code value code_base us ++ filled (symbol_value value u.references) (code_base + size us) u.fixes u.code
+code_pushed value = pushed (λ at u. filled (symbol_value value u.references) at u.fixes u.code) (joined_code value) (λ at. refl) (λ at u us. refl) code_base
 
 -- the landings, or the sites, of a unit that ends below a bound have addresses below it
 pub lists_within : (us : List UnitCode) (i at : ℕ) (u : UnitCode) → All IsWhole us → code_base + size us ≤ 2 ^ 30 → i < length us → u ≡ get_or us i u →

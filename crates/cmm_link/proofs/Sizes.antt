@@ -9,7 +9,6 @@ use Rattle.cmm_words.specs.Widths.{bits}
 use Rattle.cmm_program.specs.declared.procedure.Proc.{Proc}
 use Rattle.cmm_program.specs.declared.program.Program.{Program}
 use Rattle.cmm_program.specs.InRange.{IsProcInRange}
-use Rattle.cmm_image.specs.declared.parts.ImageParts.{ImageParts}
 use Rattle.cmm_image.specs.declared.rows.ContinuationRow.{ContinuationRow}
 use Rattle.cmm_image.specs.declared.rows.GlobalRow.{GlobalRow}
 use Rattle.cmm_image.specs.declared.rows.LabelRow.{LabelRow}
@@ -19,7 +18,7 @@ use Rattle.cmm_image.specs.declared.rows.StackLabelRow.{StackLabelRow}
 use Rattle.cmm_image.specs.declared.rows.VariableNumber.{VariableNumber}
 use Rattle.cmm_image.specs.declared.rows.VariableRow.{VariableRow}
 use Rattle.cmm_format.specs.Formats.{AreRows, number_bytes, optional_number, text_bytes}
-use Rattle.cmm_image.specs.ImageFormat.{continuation, global, header, label, no_return, one_if, procedure, saved_register, stack_label, variable, variable_number}
+use Rattle.cmm_image.specs.ImageFormat.{continuation, global, label, no_return, one_if, procedure, saved_register, stack_label, variable, variable_number}
 use Rattle.cmm_format.proofs.Shared.{length-number_bytes}
 use Rattle.cmm_located.specs.Layouts.{IsFrameOf}
 use Rattle.cmm_allocate.specs.declared.procedure.ProcedurePlaces.{ProcedurePlaces}

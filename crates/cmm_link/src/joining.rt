@@ -4,29 +4,23 @@ ghost use Rattle.std.specs.Prelude.{◌≡◌, ◌+◌, ◌<◌, ◌≤◌, ◌^
 ghost use Rattle.std.specs.List.{All};
 ghost use Rattle.rv_table.specs.Memory.{code_base};
 ghost use Rattle.rv_asm.specs.Filling.{AreApart, filled};
-ghost use Rattle.cmm_unit_code.specs.Joined.{IsJoined, IsWhole, joined_code, landing_addresses, procedure_addresses, site_addresses, symbol_value};
+ghost use Rattle.cmm_unit_code.specs.Joined.{IsJoined, IsWhole, joined_code, landing_addresses, procedure_addresses, reference_value, site_addresses, symbol_value};
 
 use cmm_items::Items;
-use cmm_unit_code::{Text, UnitCode};
+use cmm_unit_code::{Reference, Text, UnitCode};
 use rv_asm::{CodeFix, fill};
 use rv_table::memory_map::{CODE_BASE, GLOBALS_OFFSET};
 use std::alloc::{AllocError, Global};
 
-/// What a symbol stands for: the offset of a global register in the region, or behind these the address of a data label, or of a procedure,
-/// or 0 where there is none.
-fn symbol_value(registers: usize, addresses: &[u64], procedures: &[u64], symbol: u32) -> u64
-    requires { registers ≤ 256 }
-    ensures { result ≡ symbol_value registers addresses.now procedures.now symbol }
+/// What is named stands for a number: the offset of a global register in the region, the address of a data label, or that of a procedure, or
+/// 0 where there is none.
+fn reference_value(addresses: &[u64], procedures: &[u64], reference: Reference) -> u64
+    ensures { result ≡ reference_value addresses.now procedures.now reference }
 {
-    let number = symbol as usize;
-    if number < registers {
-        return GLOBALS_OFFSET + 8 * number as u64;
-    }
-    let number = number - registers;
-    let found = if number < addresses.len() {
-        addresses.get(number)
-    } else {
-        procedures.get(number - addresses.len())
+    let found = match reference {
+        Reference::Register(number) => return GLOBALS_OFFSET + 8 * u64::from(number),
+        Reference::Label(number) => addresses.get(number as usize),
+        Reference::Procedure(number) => procedures.get(number as usize),
     };
     match found {
         Some(address) => *address,
@@ -34,23 +28,32 @@ fn symbol_value(registers: usize, addresses: &[u64], procedures: &[u64], symbol:
     }
 }
 
-/// Gives each fix its number, in code that stands at an address.
+/// What a symbol of a unit stands for that names these, or 0 where it names less.
+fn symbol_value(references: &[Reference], addresses: &[u64], procedures: &[u64], symbol: u32) -> u64
+    ensures { result ≡ symbol_value (reference_value addresses.now procedures.now) references.now symbol }
+{
+    match references.get(symbol as usize) {
+        Some(reference) => reference_value(addresses, procedures, *reference),
+        None => 0,
+    }
+}
+
+/// Gives each fix its number, in code of a unit that names these and stands at an address.
 fn fill_all(
     code: &mut Vec<u8>,
     at: u64,
     fixes: &[CodeFix],
-    registers: usize,
+    references: &[Reference],
     addresses: &[u64],
     procedures: &[u64],
 )
-    requires registers { registers ≤ 256 }
     requires apart { AreApart 0 fixes.now (length code.old.items) }
     requires room { at + length code.old.items ≤ 2 ^ 30 }
-    ensures filled { code.new.items ≡ filled (symbol_value registers addresses.now procedures.now) at fixes.now code.old.items }
+    ensures filled { code.new.items ≡ filled (symbol_value (reference_value addresses.now procedures.now) references.now) at fixes.now code.old.items }
     ensures size { length code.new.items ≡ length code.old.items }
 {
     for fix in fixes {
-        let value = symbol_value(registers, addresses, procedures, fix.symbol);
+        let value = symbol_value(references, addresses, procedures, fix.symbol);
         let number = fix.number(value, at + u64::from(fix.place));
         fill(code, fix.place as usize, number);
     }
@@ -134,25 +137,28 @@ fn site_addresses(alloc: Global, units: &[UnitCode]) -> Result<Items<Items<u64>>
 fn joined_code(
     alloc: Global,
     units: Items<UnitCode>,
-    registers: usize,
     addresses: &[u64],
     procedures: &[u64],
 ) -> Result<Items<u8>, AllocError>
-    requires registers { registers ≤ 256 }
     requires whole { All IsWhole units }
     requires room { code_base + sum_by (λ u. length u.code) units ≤ 2 ^ 30 }
-    ensures { IfOk result (λ code. code ≡ joined_code (symbol_value registers addresses.now procedures.now) code_base units) }
+    ensures { IfOk result (λ code. code ≡ joined_code (reference_value addresses.now procedures.now) code_base units) }
 {
     let mut joined = Vec::new(alloc);
     for unit in units.into_vec() {
-        let UnitCode { code, fixes, .. } = unit;
+        let UnitCode {
+            code,
+            references,
+            fixes,
+            ..
+        } = unit;
         let mut code = code.into_vec();
         let at = CODE_BASE + joined.len() as u64;
         fill_all(
             &mut code,
             at,
             fixes.as_slice(),
-            registers,
+            references.as_slice(),
             addresses,
             procedures,
         );
@@ -161,26 +167,23 @@ fn joined_code(
     Ok(Items::from_vec(joined))
 }
 
-/// Joins the code of units to one text, one behind another, and fills in what symbols stand for: the `globals` global registers,
-/// then the data labels, which have these addresses, then the procedures. `last` is where, in bytes from the beginning, the call of main comes
-/// back. An error is want of memory.
+/// Joins the code of units to one text, one behind another, and fills in what their symbols stand for, where data labels have these addresses. `last`
+/// is where, in bytes from the beginning, the call of main comes back. An error is want of memory.
 pub(crate) fn join(
     alloc: Global,
     units: Items<UnitCode>,
-    registers: usize,
     addresses: &[u64],
     last: u64,
 ) -> Result<Text, AllocError>
-    requires registers { registers ≤ 256 }
     requires whole { All IsWhole units }
     requires room { code_base + sum_by (λ u. length u.code) units ≤ 2 ^ 30 }
     requires last { last ≤ 2 ^ 30 }
-    ensures { IfOk result (IsJoined registers addresses.now units last) }
+    ensures { IfOk result (IsJoined addresses.now units last) }
 {
     let procedures = procedure_addresses(alloc, units.as_slice())?;
     let landings = landing_addresses(alloc, units.as_slice())?;
     let sites = site_addresses(alloc, units.as_slice())?;
-    let code = joined_code(alloc, units, registers, addresses, procedures.as_slice())?;
+    let code = joined_code(alloc, units, addresses, procedures.as_slice())?;
     Ok(Text {
         code,
         start: CODE_BASE,

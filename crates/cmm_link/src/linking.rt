@@ -121,13 +121,7 @@ pub fn link(
         × ((placement_of image).rows ≡ placement_rows places.now t.procedures)) }
 {
     let ProgramCode { units, last } = code;
-    let text = join(
-        alloc,
-        units,
-        program.globals.len(),
-        laid.addresses.as_slice(),
-        last,
-    )?;
+    let text = join(alloc, units, laid.addresses.as_slice(), last)?;
     let image = image_of(alloc, program, places, laid, text)?;
     Ok(image)
 }

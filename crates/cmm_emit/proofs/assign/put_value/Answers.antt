@@ -35,7 +35,7 @@ returns-in_ok-assign_low-in-LowBits-clause-puts c =
 
 pub returns-in_ok-assign_global-in-Register-clause-puts : goal.returns-in_ok-assign_global-in-Register-clause-puts
 returns-in_ok-assign_global-in-Register-clause-puts c =
-    let does = rw c.as_slice.ensures at c.in_ok-assign_global-in-Register.ensures.copies in
+    let does = rw (c.named_at-from.ensures, c.as_slice.ensures) at c.in_ok-assign_global-in-Register.ensures.copies in
     let has = rw c.in-Register.is at c.requires.value in
     rw c.in-Register.is (adds_weaker does (omega arith) (λ x from to does. register_puts c.args.asm.now.labels c.args.context.now c.args.targets.now c.requires.ready x from to c.args.into.now c.in-Register.register has does))
 

@@ -20,6 +20,7 @@ returns c =
         apart = e.apart;
         whole = e.whole;
       };
+      references = c.in_ok-references.ensures ∙ c.as_slice-4.ensures;
       procedures = c.in_ok-procedures.ensures
           ∙ (ap (λ (ps : List ℕ). places_at ps c.as_slice.result.now) c.as_slice-places.ensures ∙ ap (λ (ls : List Label). places_at placed.places ls) c.as_slice.ensures);
       landings = c.in_ok-landings.ensures

@@ -1,4 +1,4 @@
-use Rattle.cmm_emit.proofs.Joining.{can_be_joined, code_of_program, text_bounded, text_is}
+use Rattle.cmm_emit.proofs.Joining.{can_be_joined, code_of_program, names, text_bounded, text_is}
 use Rattle.cmm_emit.proofs.program.lay_program.Goals as goal
 
 pub returns-clause-can : goal.returns-clause-can
@@ -14,6 +14,11 @@ returns-clause-text c =
 pub returns-clause-size : goal.returns-clause-size
 returns-clause-size c =
     text_bounded c.args.program.now c.args.graphs.now c.args.places.now c.requires.range c.requires.flows c.requires.places c.folded_flows_pass_few.ensures.few c.folded_flows_pass_few.ensures.yields c.folded_flows_are_graphs.ensures.graphs c.graphs_are_named.ensures c.frames_are_laid.ensures.made c.folded_flows_wait_once.ensures.once c.folded_flows_wait_once.ensures.each c.folded_flows_wait_once.ensures.sites
+    c.requires.short c.in_ok-start.start c.in_ok-start.ensures c.in_ok-units.units c.in_ok-units.ensures
+
+pub returns-clause-names : goal.returns-clause-names
+returns-clause-names c =
+    names c.args.program.now c.args.graphs.now c.args.places.now c.requires.range c.requires.flows c.requires.places c.folded_flows_pass_few.ensures.few c.folded_flows_pass_few.ensures.yields c.folded_flows_are_graphs.ensures.graphs c.graphs_are_named.ensures c.frames_are_laid.ensures.made c.folded_flows_wait_once.ensures.once c.folded_flows_wait_once.ensures.each c.folded_flows_wait_once.ensures.sites
     c.requires.short c.in_ok-start.start c.in_ok-start.ensures c.in_ok-units.units c.in_ok-units.ensures
 
 pub returns-clause-code : goal.returns-clause-code

@@ -33,7 +33,8 @@ lay_code-requires-clause-labels c =
     let count = c.args.count in
     let labels = c.make_outline.new.asm.labels in
     have_labels_in p graphs first count c.in_ok-outline.outline labels c.in_ok-outline.ensures.first c.in_ok-outline.ensures.count
-    (have_labels p (share first count p.procs) (share first count graphs) count (share_counted first count p.procs c.requires.within) labels c.in_ok-outline.ensures.labels)
+    (have_labels (share first count p.procs) (share first count graphs) c.in_ok-outline.outline count (share_counted first count p.procs c.requires.within) labels
+    c.in_ok-outline.ensures.labels)
 
 pub finish_unit-requires : goal.finish_unit-requires
 finish_unit-requires c =

@@ -3,7 +3,7 @@ use Rattle.std.proofs.lemmas.Option.{slice_get-get_or}
 use Rattle.rv_asm.proofs.Shared.{fixes_are_filled}
 use Rattle.rv_asm.specs.Filling.{filled, fix_number, number_at, with_number}
 use Rattle.rv_asm.specs.declared.filling.CodeFix.{CodeFix}
-use Rattle.cmm_unit_code.specs.Joined.{symbol_value}
+use Rattle.cmm_unit_code.specs.Joined.{reference_value, symbol_value}
 use Rattle.cmm_link.proofs.Joined.{next_fix}
 use Rattle.cmm_link.proofs.joining.fill_all.Goals as goal
 
@@ -27,7 +27,7 @@ loop-fix-preserved c =
     let is = slice_get-get_or fixes i no_fix c.loop-fix-test.true in
     let old = c.args.code.now.items in
     let at = c.args.at in
-    let value = symbol_value c.args.registers c.args.addresses.now c.args.procedures.now in
+    let value = symbol_value (reference_value c.args.addresses.now c.args.procedures.now) c.args.references.now in
     let number : c.number-number.result ≡ fix_number value at f =
     c.number-number.ensures
     ∙ (ap (λ (v : ℕ). number_at f.relative v (at + c.from.result)) c.symbol_value-value.ensures ∙ ap (λ (a : ℕ). number_at f.relative (value f.symbol) (at + a)) c.from.ensures) in
