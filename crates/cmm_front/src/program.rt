@@ -1,22 +1,38 @@
 //! The program of units.
 
-ghost use Rattle.std.specs.Prelude.{◌<◌, ◌≤◌, ◌^◌, All, length, map, IfOk, IfErr};
+ghost use Rattle.std.specs.Prelude.{◌<◌, ◌≤◌, ◌^◌, All, length, map, IfOk, IfErr, OnOk};
 ghost use Rattle.std.specs.Cmp.Lexicographic.{slice_cmp};
+ghost use Rattle.std.specs.List.{AllZip};
 ghost use Rattle.std.specs.List.Sorted.{IsStrictlySortedBy};
 ghost use Rattle.std.specs.Ordering.{nat_cmp};
 ghost use Rattle.cmm_elaboration.specs.Room.{KeepsRoom};
+ghost use Rattle.cmm_lexer.specs.Laws.{AreBytes};
 ghost use Rattle.cmm_program.specs.InRange.{IsInRange};
 ghost use Rattle.cmm_front.specs.Programs.{IsProgramOf};
 ghost use Rattle.cmm_front.specs.Refusing.{IsFaultOf, IsRefused};
+ghost use Rattle.cmm_front.specs.Sources.{IsTreeOf};
 
 use crate::fault::FrontFault;
 use crate::tokens::tokens_of;
 use crate::trees::trees_of;
+use cmm_ast::Unit;
 use cmm_check_units::check_units;
 use cmm_items::Items;
 use cmm_lower::lower;
 use cmm_program::Program;
 use std::alloc::Global;
+
+/// The trees of units. Their tokens are let go, since trees have what is asked of them later.
+fn trees_in(alloc: Global, units: &[Items<u8>]) -> Result<Items<Unit>, FrontFault>
+    requires { length units.now < 2 ^ 32 }
+    ensures ok { IfOk result (AllZip IsTreeOf units.now) }
+    ensures bytes { OnOk result (All AreBytes units.now) }
+    ensures err { IfErr result (IsRefused (IsFaultOf units.now)) }
+{
+    let tokens = tokens_of(alloc, units)?;
+    let trees = trees_of(alloc, tokens.as_slice())?;
+    Ok(trees)
+}
 
 /// The program that units mean, in range and with room in an image, by the bytes of each (C-- Language Specification 2.0, compilation units). Where they
 /// break a rule the fault names the first, by phase, then by unit, place and number.
@@ -36,8 +52,7 @@ pub fn program_of(alloc: Global, units: &[Items<u8>]) -> Result<Program, FrontFa
     cmm_elaboration::laws::registers_ascend();
     cmm_elaboration::laws::room_is_kept();
     cmm_elaboration::laws::spans_are_few();
-    let tokens = tokens_of(alloc, units)?;
-    let trees = trees_of(alloc, tokens.as_slice())?;
+    let trees = trees_in(alloc, units)?;
     let checked = check_units(alloc, trees.as_slice())?;
     let program = lower(alloc, &checked)?;
     Ok(program)

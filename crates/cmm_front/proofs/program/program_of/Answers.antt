@@ -1,4 +1,4 @@
-use Rattle.std.proofs.Common.{◌≡◌, ◌<◌, ◌≤◌, ◌^◌, inl, inr, List, Some, length, map, subst, sym, ◌∙◌}
+use Rattle.std.proofs.Common.{◌≡◌, ◌<◌, ◌≤◌, ◌^◌, inr, List, Some, length, map, subst, sym, ◌∙◌}
 use Rattle.std.specs.Cmp.Lexicographic.{slice_cmp}
 use Rattle.std.specs.List.{All, AllZip}
 use Rattle.std.specs.List.Sorted.{IsStrictlySortedBy}
@@ -9,60 +9,38 @@ use Rattle.cmm_elaboration.specs.Laws.{AreRead, TextsAreBytes}
 use Rattle.cmm_elaboration.specs.Meaning.{meaning_of}
 use Rattle.cmm_elaboration.specs.Room.{KeepsRoom}
 use Rattle.cmm_front.proofs.Meant.{derived_within, when_read}
-use Rattle.cmm_lexer.specs.Lexing.{Lexes}
 use Rattle.cmm_program.specs.InRange.{IsInRange}
 use Rattle.cmm_program.specs.declared.program.Program.{Program}
 use Rattle.cmm_front.specs.Programs.{IsProgramOf}
-use Rattle.cmm_front.specs.Refusing.{BreaksLexis, IsFaultOf, IsOfFirst, IsRefused, of_static}
-use Rattle.cmm_front.specs.Sources.{HasTree, IsSyntaxFault, IsTreeOf}
-use Rattle.cmm_front.proofs.First.{handed, have_tokens, refused_for, refused_static, zip_count}
+use Rattle.cmm_front.specs.Refusing.{IsFaultOf, IsRefused, of_static}
+use Rattle.cmm_front.specs.Sources.{IsTreeOf}
+use Rattle.cmm_front.proofs.First.{handed, refused_for, refused_static, zip_count}
 use Rattle.cmm_front.proofs.Named.{named_of}
-use Rattle.cmm_front.proofs.Read.{AreFew, few_each}
 use Rattle.cmm_front.proofs.program.program_of.Goals as goal
-
-pub trees_of-requires-clause-count : goal.trees_of-requires-clause-count
-trees_of-requires-clause-count c =
-    subst (λ all. length all < 2 ^ 32) (sym c.as_slice.ensures) (subst (λ n. n < 2 ^ 32) (zip_count Lexes c.args.units.now c.in_ok-tokens.tokens c.in_ok-tokens.ensures.ok) c.requires)
-
-pub trees_of-requires-clause-few : goal.trees_of-requires-clause-few
-trees_of-requires-clause-few c = subst AreFew (sym c.as_slice.ensures) (few_each c.args.units.now c.in_ok-tokens.tokens c.in_ok-tokens.ensures.ok)
 
 pub returns-in_err-trees-clause-err : goal.returns-in_err-trees-clause-err
 returns-in_err-trees-clause-err c =
-    handed (IsRefused (IsFaultOf c.args.units.now)) c.in_err-trees.field-0.0 c.from_residual-in_err-trees.result c.from_residual-in_err-trees.ensures.1
-    (refused_for (IsOfFirst HasTree IsSyntaxFault 0 c.args.units.now) (IsFaultOf c.args.units.now)
-    (λ f broken. inr (inl (have_tokens c.args.units.now c.in_ok-tokens.tokens c.in_ok-tokens.ensures.ok, broken)))
-    c.in_err-trees.field-0.0 (c.in_err-trees.ensures.err c.args.units.now (subst (AllZip Lexes c.args.units.now) (sym c.as_slice.ensures) c.in_ok-tokens.ensures.ok)))
-
-pub returns-in_err-tokens-clause-err : goal.returns-in_err-tokens-clause-err
-returns-in_err-tokens-clause-err c =
-    handed (IsRefused (IsFaultOf c.args.units.now)) c.in_err-tokens.field-0.0 c.from_residual.result c.from_residual.ensures.1
-    (refused_for (BreaksLexis c.args.units.now) (IsFaultOf c.args.units.now) (λ f broken. inl broken) c.in_err-tokens.field-0.0 c.in_err-tokens.ensures.err)
-
-pub returns-in_err-tokens-clause-named : goal.returns-in_err-tokens-clause-named
-returns-in_err-tokens-clause-named c = named_of c.args.units.now c.from_residual.result (returns-in_err-tokens-clause-err c)
+    handed (IsRefused (IsFaultOf c.args.units.now)) c.in_err-trees.field-0.0 c.from_residual.result c.from_residual.ensures.1 c.in_err-trees.ensures.err
 
 pub returns-in_err-trees-clause-named : goal.returns-in_err-trees-clause-named
-returns-in_err-trees-clause-named c = named_of c.args.units.now c.from_residual-in_err-trees.result (returns-in_err-trees-clause-err c)
+returns-in_err-trees-clause-named c = named_of c.args.units.now c.from_residual.result (returns-in_err-trees-clause-err c)
 
 pub check_units-requires : goal.check_units-requires
 check_units-requires c =
     let units = c.args.units.now in
-    let lexed : AllZip Lexes units c.as_slice.result.now = subst (AllZip Lexes units) (sym c.as_slice.ensures) c.in_ok-tokens.ensures.ok in
-    subst (λ trees. length trees < 2 ^ 32) (sym c.as_slice-2.ensures) (subst (λ n. n < 2 ^ 32) (zip_count IsTreeOf units c.in_ok-trees.trees (c.in_ok-trees.ensures.ok units lexed)) c.requires)
+    subst (λ trees. length trees < 2 ^ 32) (sym c.as_slice.ensures) (subst (λ n. n < 2 ^ 32) (zip_count IsTreeOf units c.in_ok-trees.trees c.in_ok-trees.ensures.ok) c.requires)
 
 pub returns-in_err-checked-clause-err : goal.returns-in_err-checked-clause-err
 returns-in_err-checked-clause-err c =
     let units = c.args.units.now in
-    let lexed : AllZip Lexes units c.as_slice.result.now = subst (AllZip Lexes units) (sym c.as_slice.ensures) c.in_ok-tokens.ensures.ok in
     handed (IsRefused (IsFaultOf units)) (of_static c.in_err-checked.field-0.0) c.from_residual-in_err-checked.result c.from_residual-in_err-checked.ensures.1
-    (refused_for (λ f. first_fault c.as_slice-2.result.now ≡ Some f) (IsFaultOf units)
+    (refused_for (λ f. first_fault c.as_slice.result.now ≡ Some f) (IsFaultOf units)
     (λ f broken. inr (inr record {
       trees = c.in_ok-trees.trees;
-      are_trees = c.in_ok-trees.ensures.ok units lexed;
-      first = subst (λ trees. first_fault trees ≡ Some f) c.as_slice-2.ensures broken;
+      are_trees = c.in_ok-trees.ensures.ok;
+      first = subst (λ trees. first_fault trees ≡ Some f) c.as_slice.ensures broken;
     }))
-    (of_static c.in_err-checked.field-0.0) (refused_static c.as_slice-2.result.now c.in_err-checked.field-0.0 c.in_err-checked.ensures.err))
+    (of_static c.in_err-checked.field-0.0) (refused_static c.as_slice.result.now c.in_err-checked.field-0.0 c.in_err-checked.ensures.err))
 
 pub returns-in_err-checked-clause-named : goal.returns-in_err-checked-clause-named
 returns-in_err-checked-clause-named c = named_of c.args.units.now c.from_residual-in_err-checked.result (returns-in_err-checked-clause-err c)
@@ -71,12 +49,11 @@ pub returns-clause-ok : goal.returns-clause-ok
 returns-clause-ok c =
     let units = c.args.units.now in
     let trees = c.in_ok-trees.trees in
-    let same : c.in_ok-checked.checked ≡ trees = c.in_ok-checked.ensures.ok ∙ c.as_slice-2.ensures in
-    let lexed : AllZip Lexes units c.as_slice.result.now = subst (AllZip Lexes units) (sym c.as_slice.ensures) c.in_ok-tokens.ensures.ok in
-    let are : AllZip IsTreeOf units trees = c.in_ok-trees.ensures.ok units lexed in
-    let accepted : AreAccepted trees = subst AreAccepted c.as_slice-2.ensures c.in_ok-checked.ensures.accepted in
+    let same : c.in_ok-checked.checked ≡ trees = c.in_ok-checked.ensures.ok ∙ c.as_slice.ensures in
+    let are : AllZip IsTreeOf units trees = c.in_ok-trees.ensures.ok in
+    let accepted : AreAccepted trees = subst AreAccepted c.as_slice.ensures c.in_ok-checked.ensures.accepted in
     let program = c.in_ok-program.program in
-    let is = when_read units trees c.in_ok-tokens.ensures.bytes are
+    let is = when_read units trees c.in_ok-trees.ensures.bytes are
     (subst (λ (ts : List UnitTree). AreRead ts → TextsAreBytes ts → program ≡ meaning_of ts) same c.in_ok-program.ensures.program)
     in
     record { trees = trees; are_trees = are; accepted = accepted; is_program = is }
@@ -85,15 +62,15 @@ pub returns-clause-range : goal.returns-clause-range
 unfolding returns-clause-ok
 returns-clause-range c =
     let is : IsProgramOf c.args.units.now c.in_ok-program.program = returns-clause-ok c in
-    let same : c.in_ok-checked.checked ≡ c.in_ok-trees.trees = c.in_ok-checked.ensures.ok ∙ c.as_slice-2.ensures in
-    when_read c.args.units.now is.trees c.in_ok-tokens.ensures.bytes is.are_trees
+    let same : c.in_ok-checked.checked ≡ c.in_ok-trees.trees = c.in_ok-checked.ensures.ok ∙ c.as_slice.ensures in
+    when_read c.args.units.now is.trees c.in_ok-trees.ensures.bytes is.are_trees
     (subst (λ (ts : List UnitTree). AreRead ts → TextsAreBytes ts → IsInRange c.in_ok-program.program) same c.in_ok-program.ensures.range)
 
 pub returns-clause-room : goal.returns-clause-room
 returns-clause-room c =
     let is : IsProgramOf c.args.units.now c.in_ok-program.program = returns-clause-ok c in
     subst KeepsRoom (sym is.is_program)
-    (when_read c.args.units.now is.trees c.in_ok-tokens.ensures.bytes is.are_trees (λ read texts. c.room_is_kept.ensures is.trees is.accepted read))
+    (when_read c.args.units.now is.trees c.in_ok-trees.ensures.bytes is.are_trees (λ read texts. c.room_is_kept.ensures is.trees is.accepted read))
 
 pub returns-clause-registers : goal.returns-clause-registers
 returns-clause-registers c =
