@@ -10,6 +10,7 @@ mod WaitingSites
 mod Summing
 mod Covering
 mod Own
+mod Between
 mod Belonging
 mod Owning
 mod Outlined

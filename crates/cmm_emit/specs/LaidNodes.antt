@@ -8,7 +8,7 @@ use Rattle.cmm_graph.specs.declared.node.Node.{Node}
 use Rattle.cmm_graph.specs.declared.node.NodeKind.{NodeKind}
 use Rattle.cmm_graph.specs.declared.graph.Graph.{Graph}
 use Rattle.cmm_live.specs.Sites.{site_of}
-use Rattle.rv_asm.specs.Appending.{Codes}
+use Rattle.rv_asm.specs.Appending.{Appends, Codes}
 use Rattle.rv_asm.specs.Parts.{Code}
 use Rattle.rv_asm.specs.Sizes.{all_longest}
 use Rattle.rv_asm.specs.declared.part.Meaning.{Meaning}
@@ -142,3 +142,19 @@ module _ (p : Context) (y : Targets) (g : Graph) where
     pub ends : parts ≡ front ++ Place (label_at p.nodes n.number) ∷ []
     pub have : HaveCode placed (Some n) parts
     pub stand : SitesStand p g placed (Some n) parts
+
+  -- between two nodes: labels are ready, and each node that has its place has its code
+  pub record IsBetween (labels : List Meaning) (placed : List Bool) (parts : List Part) : Type 0 where
+    pub ready : IsReady labels p y
+    pub laid : AreLaid labels p placed
+    pub waits : SitesWait p g labels placed None
+    pub have : HaveCode placed None parts
+    pub stand : SitesStand p g placed None parts
+
+  -- Since then more was laid behind, where this node had been next, if one had: nodes keep their places, of the labels that were there just those of the procedure may have come to
+  -- places, and with what is still to come the code is no longer than it was to be.
+  pub record IsLaidBehind (next : Option NodeId) (labels now : List Meaning) (placed more : List Bool) (parts longer : List Part) : Type 0 where
+    pub grows : (k : ℕ) → has placed k ≡ true → has more k ≡ true
+    pub added : Appends parts longer (λ x from to. Unit {0})
+    pub places : PlacesOwn p labels now
+    pub size : size_with p y g longer more None ≤ size_with p y g parts placed next

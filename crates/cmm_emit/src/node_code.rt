@@ -14,7 +14,7 @@ ghost use Rattle.cmm_graph.specs.declared.node.Node.{Node as GraphNode};
 ghost use Rattle.cmm_effects.specs.Pieces.{Adds, Always};
 ghost use Rattle.cmm_effects.specs.Ways.{Goes, Turns};
 ghost use Rattle.cmm_emit.specs.Costs.{cost_of, jump_cost, total_cost};
-ghost use Rattle.cmm_emit.specs.LaidNodes.{PlacesOwn, AreLabelsBehind, AreLaid, AreUnplaced, CodesAlone, EndsAt, HaveCode, HaveSites, IsPending, SitesStand, SitesWait, StandsHere, WaitApart, labels_behind, size_with};
+ghost use Rattle.cmm_emit.specs.LaidNodes.{AreLabelsBehind, AreLaid, AreUnplaced, CodesAlone, EndsAt, HaveSites, IsBetween, IsLaidBehind, IsPending, PlacesOwn, StandsHere, WaitApart, labels_behind};
 ghost use Rattle.cmm_emit.specs.Naming.{has_kind, has_node, label_at};
 ghost use Rattle.cmm_emit.specs.Standing.{CanWait, IsReady, LeadsFrom, SiteStands, falls_to, is_bare};
 
@@ -202,15 +202,8 @@ fn lay_chain(
     requires sites { HaveSites context.now }
     requires once { WaitApart graph.now }
     requires pending { IsPending context.now targets.now graph.now asm.old.labels placed.old first asm.old.parts }
-    ensures ready { OnOk result (IsReady asm.new.labels context.now targets.now) }
-    ensures laid { OnOk result (AreLaid asm.new.labels context.now placed.new) }
-    ensures waits { OnOk result (SitesWait context.now graph.now asm.new.labels placed.new None) }
-    ensures have { OnOk result (HaveCode context.now targets.now graph.now placed.new None asm.new.parts) }
-    ensures stand { OnOk result (SitesStand context.now graph.now placed.new None asm.new.parts) }
-    ensures grows { OnOk result ((k : ℕ) → has placed.old k ≡ true → has placed.new k ≡ true) }
-    ensures added { OnOk result (Appends asm.old.parts asm.new.parts (λ x from to. Unit {0})) }
-    ensures places { OnOk result (PlacesOwn context.now asm.old.labels asm.new.labels) }
-    ensures size { OnOk result (size_with context.now targets.now graph.now asm.new.parts placed.new None ≤ size_with context.now targets.now graph.now asm.old.parts placed.old (Some first)) }
+    ensures between { OnOk result (IsBetween context.now targets.now graph.now asm.new.labels placed.new asm.new.parts) }
+    ensures behind { OnOk result (IsLaidBehind context.now targets.now graph.now (Some first) asm.old.labels asm.new.labels placed.old placed.new asm.old.parts asm.new.parts) }
 {
     let mut at = first;
     for _ in 0..graph.nodes.len() {
@@ -233,26 +226,15 @@ fn lay_from(
     first: NodeId,
     placed: &mut BitSet,
 ) -> Result<(), AllocError>
-    requires ready { IsReady asm.old.labels context.now targets.now }
-    requires laid { AreLaid asm.old.labels context.now placed.old }
+    requires between { IsBetween context.now targets.now graph.now asm.old.labels placed.old asm.old.parts }
     requires size { length context.now.nodes ≡ length graph.now.nodes }
     requires kinds { IsTrue (list_all (λ node. has_kind context.now targets.now node.kind) graph.now.nodes) }
     requires sites { HaveSites context.now }
     requires once { WaitApart graph.now }
     requires first { IsTrue (has_node context.now first) }
-    requires waits { SitesWait context.now graph.now asm.old.labels placed.old None }
-    requires have { HaveCode context.now targets.now graph.now placed.old None asm.old.parts }
-    requires stand { SitesStand context.now graph.now placed.old None asm.old.parts }
-    ensures ready { OnOk result (IsReady asm.new.labels context.now targets.now) }
-    ensures laid { OnOk result (AreLaid asm.new.labels context.now placed.new) }
-    ensures waits { OnOk result (SitesWait context.now graph.now asm.new.labels placed.new None) }
-    ensures have { OnOk result (HaveCode context.now targets.now graph.now placed.new None asm.new.parts) }
-    ensures stand { OnOk result (SitesStand context.now graph.now placed.new None asm.new.parts) }
+    ensures between { OnOk result (IsBetween context.now targets.now graph.now asm.new.labels placed.new asm.new.parts) }
     ensures first { OnOk result (has placed.new first.number ≡ true) }
-    ensures grows { OnOk result ((k : ℕ) → has placed.old k ≡ true → has placed.new k ≡ true) }
-    ensures added { OnOk result (Appends asm.old.parts asm.new.parts (λ x from to. Unit {0})) }
-    ensures places { OnOk result (PlacesOwn context.now asm.old.labels asm.new.labels) }
-    ensures size { OnOk result (size_with context.now targets.now graph.now asm.new.parts placed.new None ≤ size_with context.now targets.now graph.now asm.old.parts placed.old None) }
+    ensures behind { OnOk result (IsLaidBehind context.now targets.now graph.now None asm.old.labels asm.new.labels placed.old placed.new asm.old.parts asm.new.parts) }
 {
     if placed.has(first.number) {
         return Ok(());
@@ -273,25 +255,15 @@ fn lay_each(
     nodes: &[NodeId],
     placed: &mut BitSet,
 ) -> Result<(), AllocError>
-    requires ready { IsReady asm.old.labels context.now targets.now }
-    requires laid { AreLaid asm.old.labels context.now placed.old }
+    requires between { IsBetween context.now targets.now graph.now asm.old.labels placed.old asm.old.parts }
     requires size { length context.now.nodes ≡ length graph.now.nodes }
     requires kinds { IsTrue (list_all (λ node. has_kind context.now targets.now node.kind) graph.now.nodes) }
     requires nodes { All (λ n. IsTrue (has_node context.now n)) nodes.now }
     requires sites { HaveSites context.now }
     requires once { WaitApart graph.now }
-    requires waits { SitesWait context.now graph.now asm.old.labels placed.old None }
-    requires have { HaveCode context.now targets.now graph.now placed.old None asm.old.parts }
-    requires stand { SitesStand context.now graph.now placed.old None asm.old.parts }
-    ensures ready { OnOk result (IsReady asm.new.labels context.now targets.now) }
-    ensures laid { OnOk result (AreLaid asm.new.labels context.now placed.new) }
-    ensures waits { OnOk result (SitesWait context.now graph.now asm.new.labels placed.new None) }
-    ensures have { OnOk result (HaveCode context.now targets.now graph.now placed.new None asm.new.parts) }
-    ensures stand { OnOk result (SitesStand context.now graph.now placed.new None asm.new.parts) }
+    ensures between { OnOk result (IsBetween context.now targets.now graph.now asm.new.labels placed.new asm.new.parts) }
     ensures each { OnOk result (All (λ n. has placed.new n.number ≡ true) nodes.now) }
-    ensures added { OnOk result (Appends asm.old.parts asm.new.parts (λ x from to. Unit {0})) }
-    ensures places { OnOk result (PlacesOwn context.now asm.old.labels asm.new.labels) }
-    ensures size { OnOk result (size_with context.now targets.now graph.now asm.new.parts placed.new None ≤ size_with context.now targets.now graph.now asm.old.parts placed.old None) }
+    ensures behind { OnOk result (IsLaidBehind context.now targets.now graph.now None asm.old.labels asm.new.labels placed.old placed.new asm.old.parts asm.new.parts) }
 {
     for node in nodes {
         lay_from(asm, alloc, context, targets, graph, *node, placed)?;

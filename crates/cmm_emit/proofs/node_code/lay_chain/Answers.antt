@@ -10,7 +10,7 @@ use Rattle.cmm_emit.proofs.Own.{own_node, own_none, own_then, own_with}
 use Rattle.cmm_bitset.proofs.Shared.{member_count-le}
 use Rattle.cmm_emit.proofs.Placing.{code_comes, member_stays, node_stands, one_member_more, place_comes, some_member}
 use Rattle.cmm_emit.proofs.NodeSites.{stand_laid}
-use Rattle.cmm_emit.proofs.Summing.{last_costs, next_costs, rest_costs}
+use Rattle.cmm_emit.proofs.Summing.{last_costs, next_costs}
 use Rattle.cmm_emit.proofs.WaitingSites.{waits_behind, waits_with}
 use Rattle.cmm_emit.specs.LaidNodes.{AreLabelsBehind, EndsAt, PlacesOwn, SitesStand, SitesWait}
 use Rattle.cmm_emit.specs.Naming.{has_kind, label_at}
@@ -29,9 +29,10 @@ lay_node-requires-clause-waits c =
     let same : get_or nodes at.number node ≡ node = sym (rw c.as_slice.ensures at c.index-as_slice-at.is) in
     c.loop.invariant.0.waits at.number node (slice_get-get_or nodes at.number node inside ∙ ap Some same) (inr refl)
 
-pub returns-in-None-clause-waits : goal.returns-in-None-clause-waits
-returns-in-None-clause-waits c =
+pub returns-in-None-clause-between : goal.returns-in-None-clause-between
+returns-in-None-clause-between c =
     let p = c.args.context.now in
+    let y = c.args.targets.now in
     let g = c.args.graph.now in
     let at = c.loop.at in
     let node = c.index-as_slice-at.result in
@@ -43,25 +44,19 @@ returns-in-None-clause-waits c =
     let stays : c.lay_node.new.placed ≡ c.loop.placed = rw c.in-None.is at c.in_ok-next.ensures.stays in
     let behind : AreLabelsBehind p node.kind None c.loop.asm.labels c.lay_node.new.asm.labels = rw c.in-None.is at c.in_ok-next.ensures.labels in
     let waits : SitesWait p g (labels_with p node.kind c.loop.asm.labels) c.loop.placed None =
-    waits_with p c.args.targets.now g c.requires.kinds c.requires.sites c.requires.once c.loop.asm.labels c.loop.placed at node is pending.member pending.waits in
+    waits_with p y g c.requires.kinds c.requires.sites c.requires.once c.loop.asm.labels c.loop.placed at node is pending.member pending.waits in
     let made : SitesWait p g behind.0 c.loop.placed None = waits_made p _ _ behind.0 behind.1 g c.loop.placed None waits in
-    rw (behind.2, stays) made
-
-pub returns-in-None-clause-have : goal.returns-in-None-clause-have
-returns-in-None-clause-have c =
-    let p = c.args.context.now in
-    let y = c.args.targets.now in
-    let g = c.args.graph.now in
-    let at = c.loop.at in
-    let node = c.index-as_slice-at.result in
-    let nodes = g.nodes in
-    let inside : at.number < length nodes = omega (arith, c.loop.invariant.0.within, c.requires.size) in
-    let same : get_or nodes at.number node ≡ node = sym (rw c.as_slice.ensures at c.index-as_slice-at.is) in
-    let is = slice_get-get_or nodes at.number node inside ∙ ap Some same in
     let appends = appends_weaker c.in_ok-next.ensures.code.appends (λ x from to codes. node_stands p y g at.number node is x from to codes) in
-    let have = code_comes p y g c.loop.asm.labels c.loop.placed at c.loop.asm.parts c.lay_node.new.asm.parts c.loop.invariant.0 appends in
-    let stays : c.lay_node.new.placed ≡ c.loop.placed = rw c.in-None.is at c.in_ok-next.ensures.stays in
-    rw stays have
+    let have = code_comes p y g c.loop.asm.labels c.loop.placed at c.loop.asm.parts c.lay_node.new.asm.parts pending appends in
+    let stand : SitesStand p g c.loop.placed None c.lay_node.new.asm.parts =
+    stand_laid p g c.loop.placed at node is pending.stand c.in_ok-next.ensures.code.appends c.in_ok-next.ensures.stands in
+    record {
+      ready = c.in_ok-next.ensures.ready;
+      laid = c.in_ok-next.ensures.laid;
+      waits = rw (behind.2, stays) made;
+      have = rw stays have;
+      stand = rw stays stand;
+    }
 
 pub loop-preserved : goal.loop-preserved
 loop-preserved c =
@@ -104,19 +99,16 @@ loop-preserved c =
       rw ends.placed (omega (arith, c.loop.invariant.5, c.in_ok-next.ensures.code.few, next_costs p y g old at next node is pending.member ends.fresh)),
     )
 
-pub returns-clause-have : goal.returns-clause-have
-returns-clause-have c k is =
+pub returns-clause-between : goal.returns-clause-between
+returns-clause-between c =
     absurd (omega (arith, c.loop.invariant.2, member_count-le c.loop.placed, c.loop.invariant.0.laid.size, c.requires.size, c.loop-test.false, c.len-end.ensures))
 
-pub returns-clause-waits : goal.returns-clause-waits
-returns-clause-waits c k node is comes =
+pub returns-clause-behind : goal.returns-clause-behind
+returns-clause-behind c =
     absurd (omega (arith, c.loop.invariant.2, member_count-le c.loop.placed, c.loop.invariant.0.laid.size, c.requires.size, c.loop-test.false, c.len-end.ensures))
 
-pub returns-in-None-clause-added : goal.returns-in-None-clause-added
-returns-in-None-clause-added c = appends_weaker (appends_then c.loop.invariant.3 c.in_ok-next.ensures.code.appends) (λ x from to does. tt)
-
-pub returns-in-None-clause-places : goal.returns-in-None-clause-places
-returns-in-None-clause-places c =
+pub returns-in-None-clause-behind : goal.returns-in-None-clause-behind
+returns-in-None-clause-behind c =
     let p = c.args.context.now in
     let y = c.args.targets.now in
     let g = c.args.graph.now in
@@ -127,42 +119,15 @@ returns-in-None-clause-places c =
     let same : get_or nodes at.number node ≡ node = sym (rw c.as_slice.ensures at c.index-as_slice-at.is) in
     let is = slice_get-get_or nodes at.number node inside ∙ ap Some same in
     let pending = c.loop.invariant.0 in
+    let stays : c.lay_node.new.placed ≡ c.loop.placed = rw c.in-None.is at c.in_ok-next.ensures.stays in
     let behind : AreLabelsBehind p node.kind None c.loop.asm.labels c.lay_node.new.asm.labels = rw c.in-None.is at c.in_ok-next.ensures.labels in
     let can = list_all_get (λ node. has_kind p y node.kind) nodes at.number node c.requires.kinds is in
     let own = own_then p c.loop.asm.labels (labels_with p node.kind c.loop.asm.labels) behind.0 (own_with p y node.kind c.loop.asm.labels can (pending.waits at.number node is (inr refl)))
     (own_made p _ _ behind.0 behind.1) in
-    own_then p c.args.asm.now.labels c.loop.asm.labels c.lay_node.new.asm.labels c.loop.invariant.4 (subst (λ (ms : List Meaning). PlacesOwn p c.loop.asm.labels ms) (sym behind.2) own)
-
-pub returns-clause-size : goal.returns-clause-size
-returns-clause-size c =
-    omega (arith, c.loop.invariant.5, rest_costs c.args.context.now c.args.targets.now c.args.graph.now c.loop.placed c.loop.at)
-
-pub returns-in-None-clause-size : goal.returns-in-None-clause-size
-returns-in-None-clause-size c =
-    let p = c.args.context.now in
-    let y = c.args.targets.now in
-    let g = c.args.graph.now in
-    let at = c.loop.at in
-    let node = c.index-as_slice-at.result in
-    let inside : at.number < length g.nodes = omega (arith, c.loop.invariant.0.within, c.requires.size) in
-    let same : get_or g.nodes at.number node ≡ node = sym (rw c.as_slice.ensures at c.index-as_slice-at.is) in
-    let is = slice_get-get_or g.nodes at.number node inside ∙ ap Some same in
-    let stays : c.lay_node.new.placed ≡ c.loop.placed = rw c.in-None.is at c.in_ok-next.ensures.stays in
-    rw stays (omega (arith, c.loop.invariant.5, c.in_ok-next.ensures.code.few, last_costs p y g c.loop.placed at node is c.loop.invariant.0.member))
-
-pub returns-clause-stand : goal.returns-clause-stand
-returns-clause-stand c k node is come =
-    absurd (omega (arith, c.loop.invariant.2, member_count-le c.loop.placed, c.loop.invariant.0.laid.size, c.requires.size, c.loop-test.false, c.len-end.ensures))
-
-pub returns-in-None-clause-stand : goal.returns-in-None-clause-stand
-returns-in-None-clause-stand c =
-    let g = c.args.graph.now in
-    let at = c.loop.at in
-    let node = c.index-as_slice-at.result in
-    let inside : at.number < length g.nodes = omega (arith, c.loop.invariant.0.within, c.requires.size) in
-    let same : get_or g.nodes at.number node ≡ node = sym (rw c.as_slice.ensures at c.index-as_slice-at.is) in
-    let is = slice_get-get_or g.nodes at.number node inside ∙ ap Some same in
-    let stays : c.lay_node.new.placed ≡ c.loop.placed = rw c.in-None.is at c.in_ok-next.ensures.stays in
-    let stand : SitesStand c.args.context.now g c.loop.placed None c.lay_node.new.asm.parts =
-    stand_laid c.args.context.now g c.loop.placed at node is c.loop.invariant.0.stand c.in_ok-next.ensures.code.appends c.in_ok-next.ensures.stands in
-    rw stays stand
+    record {
+      grows = rw stays c.loop.invariant.1;
+      added = appends_weaker (appends_then c.loop.invariant.3 c.in_ok-next.ensures.code.appends) (λ x from to does. tt);
+      places =
+          own_then p c.args.asm.now.labels c.loop.asm.labels c.lay_node.new.asm.labels c.loop.invariant.4 (subst (λ (ms : List Meaning). PlacesOwn p c.loop.asm.labels ms) (sym behind.2) own);
+      size = rw stays (omega (arith, c.loop.invariant.5, c.in_ok-next.ensures.code.few, last_costs p y g c.loop.placed at node is pending.member));
+    }

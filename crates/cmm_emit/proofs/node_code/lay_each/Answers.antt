@@ -1,10 +1,9 @@
-use Rattle.std.proofs.Common.{◌≡◌, ℕ, ◌+◌, ◌<◌, inl, inr, get_or, length, subst, true, arith, IsTrue}
+use Rattle.std.proofs.Common.{◌≡◌, ℕ, ◌+◌, ◌<◌, inl, inr, get_or, subst, true, arith, IsTrue, None}
 use Rattle.std.proofs.lemmas.Bool.{cases_lt}
 use Rattle.std.proofs.lemmas.List.Elements.{All-from_get_or, All-get_or}
-use Rattle.rv_asm.proofs.Shared.{appends_none, appends_then, appends_weaker}
 use Rattle.cmm_bitset.specs.Sets.{has}
 use Rattle.cmm_graph.specs.declared.number.NodeId.{NodeId}
-use Rattle.cmm_emit.proofs.Own.{own_none, own_then}
+use Rattle.cmm_emit.proofs.Between.{both_behind, none_behind}
 use Rattle.cmm_emit.specs.Naming.{has_node}
 use Rattle.cmm_emit.proofs.node_code.lay_each.Goals as goal
 
@@ -17,15 +16,9 @@ up_to P n before here k less = elim (cases_lt k n) [
 
 pub loop-node-init : goal.loop-node-init
 loop-node-init c = record {
-  ready = c.requires.ready;
-  laid = c.requires.laid;
-  waits = c.requires.waits;
-  have = c.requires.have;
-  stand = c.requires.stand;
+  between = c.requires.between;
   each = λ k less. absurd (omega (arith, less));
-  added = appends_weaker (appends_none c.args.asm.now.parts) (λ x from to is. tt);
-  places = own_none c.args.context.now c.args.asm.now.labels;
-  size = omega arith;
+  behind = none_behind c.args.context.now c.args.targets.now c.args.graph.now c.args.asm.now.labels c.args.placed.now c.args.asm.now.parts;
 }
 
 pub loop-node-preserved : goal.loop-node-preserved
@@ -33,16 +26,11 @@ loop-node-preserved c =
     let e = c.in_ok-lay_from.ensures in
     let inv = c.loop-node.invariant in
     record {
-      ready = e.ready;
-      laid = e.laid;
-      waits = e.waits;
-      have = e.have;
-      stand = e.stand;
+      between = e.between;
       each = λ k less. up_to (λ k. has c.lay_from.new.placed (get_or c.args.nodes.now k (record { number = 0 })).number ≡ true) c.loop-node.node-index
-          (λ k before. e.grows (get_or c.args.nodes.now k (record { number = 0 })).number (inv.each k before)) e.first k (omega (arith, less));
-      added = appends_weaker (appends_then inv.added e.added) (λ x from to does. tt);
-      places = own_then c.args.context.now c.args.asm.now.labels c.loop-node.asm.labels c.lay_from.new.asm.labels inv.places e.places;
-      size = omega (arith, e.size, inv.size);
+          (λ k before. e.behind.grows (get_or c.args.nodes.now k (record { number = 0 })).number (inv.each k before)) e.first k (omega (arith, less));
+      behind = both_behind c.args.context.now c.args.targets.now c.args.graph.now None c.args.asm.now.labels c.loop-node.asm.labels c.lay_from.new.asm.labels c.args.placed.now c.loop-node.placed
+          c.lay_from.new.placed c.args.asm.now.parts c.loop-node.asm.parts c.lay_from.new.asm.parts inv.behind e.behind;
     }
 
 pub lay_from-requires-clause-first : goal.lay_from-requires-clause-first
