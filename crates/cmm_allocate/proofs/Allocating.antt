@@ -1,33 +1,30 @@
 -- Registers by colours, and slots for the other locals, are what a colouring is to give.
-use Rattle.std.proofs.Common.{◌≡◌, ◌≢◌, ◌⊎◌, inl, inr, ℕ, zero, suc, ◌+◌, ◌*◌, ◌<◌, ◌≤◌, ◌==◌, nat_lt, Bool, true, false, ◌&&◌, not, Contains, List, [], ◌∷◌, ◌++◌, get_or, length, Option, Some, None, is_some, refl, ap, sym, ◌∙◌, subst, arith, length-append}
-use Rattle.std.proofs.lemmas.Bool.{and_from, and_parts, eq-eqb, not-true, or_right}
+use Rattle.std.proofs.Common.{◌≡◌, ◌≢◌, ◌⊎◌, inl, inr, ℕ, zero, suc, ◌+◌, ◌*◌, ◌<◌, ◌≤◌, ◌==◌, nat_lt, Bool, true, false, ◌&&◌, not, Contains, List, [], ◌∷◌, ◌++◌, get_or, length, Option, Some, None, is_none, is_some, refl, ap, sym, ◌∙◌, subst, arith, length-append}
+use Rattle.std.proofs.lemmas.Bool.{and_parts, eq-eqb, not-true, or_right}
 use Rattle.std.proofs.lemmas.Bool.Decides.{nat_tests}
 use Rattle.std.proofs.lemmas.List.{get_or_append_left, get_or-append-add, get_or_default}
 use Rattle.cmm_abi.specs.Registers.{callee_saves}
 use Rattle.cmm_bitset.specs.Sets.{has}
-use Rattle.cmm_ilist.specs.NodeLists.{has as is_listed}
 use Rattle.cmm_chain.specs.declared.frame.Location.{Location}
 use Rattle.cmm_chain.specs.declared.frame.Location.TheVariants.{Slot, Saved, Temp}
 use Rattle.cmm_colour.specs.Colours.{colour_of}
-use Rattle.cmm_colour.specs.Graphs.{adjacent}
 use Rattle.cmm_colour.specs.Peeling.{Peels}
 use Rattle.cmm_graph.specs.declared.graph.Graph.{Graph}
 use Rattle.cmm_graph.specs.declared.operand.Local.{Local}
 use Rattle.cmm_graph.specs.declared.operand.Local.TheVariants as local
 use Rattle.cmm_live.specs.declared.live_sets.LiveSets.{LiveSets}
-use Rattle.cmm_live.specs.Conflicts.{Conflicts, conflicts, is_same}
+use Rattle.cmm_live.specs.Conflicts.{conflicts, is_same}
 use Rattle.cmm_live.specs.Exact.{AreLiveSets}
 use Rattle.cmm_live.specs.Laws.{SetsDecideConflicts}
-use Rattle.cmm_live.specs.Locals.{local_count, local_number}
+use Rattle.cmm_live.specs.Locals.{local_count}
 use Rattle.cmm_located.specs.Layouts.{slot_offset}
-use Rattle.cmm_allocate.specs.Allocated.{AreAllocated, is_in_callee_saves, is_in_temporary, temporaries}
-use Rattle.cmm_allocate.specs.Classes.{conflict, conflict_within, is_in_some, is_live_past_cut, local_at, suits_callee_saves, suits_temporary}
+use Rattle.cmm_allocate.specs.Allocated.{AreAllocated, is_in_callee_saves, is_in_register, is_in_temporary, temporaries}
+use Rattle.cmm_allocate.specs.Classes.{conflict, conflict_within, is_in_some, is_live_past_cut, local_at, suits_callee_saves, suits_register, suits_temporary}
 use Rattle.cmm_allocate.specs.Compiling.{no_place}
 use Rattle.cmm_allocate.specs.Placed.{place_at}
-use Rattle.cmm_allocate.specs.inside.Classing.{IsClass}
-use Rattle.cmm_allocate.specs.inside.Colouring.{AreHomes, AreRegisters, IsColoured, IsHome, home, if_in, in_register, next_slot, register_in, register_of, with_colour}
-use Rattle.cmm_allocate.proofs.Living.{numbered}
-use Rattle.cmm_allocate.proofs.Peeling.{peels_less}
+use Rattle.cmm_allocate.specs.inside.Colouring.{AreHomes, AreRegisters, IsHome, home, if_in, in_register, next_slot, register_in, register_of, with_colour}
+use Rattle.cmm_allocate.proofs.Coloured.{full, proper}
+use Rattle.cmm_allocate.proofs.Sharing.{AreSecond, PeelsAmongAll, are_second, second_coloured}
 use Rattle.cmm_allocate.proofs.SlotOrder.{no_more_slot, one_more_slot, slots_ordered, words}
 
 -- ---- lists of registers
@@ -56,48 +53,7 @@ registers_differ (x ∷ xs) (suc c) zero is c_low d_low same = absurd (absent_at
 registers_differ (x ∷ xs) (suc c) (suc d) is c_low d_low same =
     ap suc (registers_differ xs c d (and_parts (is_absent x xs) (differ xs) is).1 (omega (arith, c_low)) (omega (arith, d_low)) same)
 
--- ---- colours of a class
-
-module _ (decide : SetsDecideConflicts) (g : Graph) (live : LiveSets) (sets : AreLiveSets g live) (test : ℕ → Bool) (class : List Bool) (k : ℕ) (colours : List (Option ℕ))
-    (is : IsClass g test class) (coloured : IsColoured g class k colours) where
-  graph : List (List ℕ)
-  graph = coloured.graph
-
-  -- two of the class that conflict have different colours
-  proper : (v w c : ℕ) → v < local_count g → w < local_count g → has class v ≡ true → has class w ≡ true → conflict g live v w ≡ true → colour_of colours v ≡ Some c →
-      colour_of colours w ≡ Some c → ⊥
-  proper v w c v_low w_low in_v in_w are one other =
-      let of_v = numbered g v v_low in
-      let of_w = numbered g w w_low in
-      let conflicting : Conflicts g (local_at g v) (local_at g w) = (decide g live (local_at g v) (local_at g w) sets of_v.1 of_w.1).0 are in
-      let joined : adjacent coloured.graph (local_number g (local_at g v)) (local_number g (local_at g w)) ≡ true =
-      (coloured.conflicts.exact (local_at g v) (local_at g w) of_v.1 of_w.1).1 (ap (has class) of_v.0 ∙ in_v, ap (has class) of_w.0 ∙ in_w, conflicting) in
-      coloured.colours_are.proper v w c (sym (ap (λ (n : ℕ). adjacent coloured.graph n w) of_v.0)
-      ∙ (sym (ap (adjacent coloured.graph (local_number g (local_at g v))) of_w.0) ∙ joined)) one other
-
-  row_there : (rows : List (List ℕ)) (v w : ℕ) → is_listed w (get_or rows v []) ≡ true → v < length rows
-  row_there [] v w has_w = absurd (cc)
-  row_there (row ∷ rows) zero w has_w = omega arith
-  row_there (row ∷ rows) (suc v) w has_w = let rest = row_there rows v w has_w in omega (arith, rest)
-
-  -- and who is joined in the graph conflicts
-  joined_conflict : (v w : ℕ) → w < local_count g → adjacent coloured.graph v w ≡ true → conflict_within g live test v w ≡ true
-  joined_conflict v w w_low joined =
-      let v_low : v < local_count g = subst (λ n. v < n) coloured.conflicts.size (row_there coloured.graph v w joined) in
-      let of_v = numbered g v v_low in
-      let of_w = numbered g w w_low in
-      let both = (coloured.conflicts.exact (local_at g v) (local_at g w) of_v.1 of_w.1).0
-      (ap (adjacent coloured.graph (local_number g (local_at g v))) of_w.0 ∙ (ap (λ (n : ℕ). adjacent coloured.graph n w) of_v.0 ∙ joined)) in
-      let in_v : test v ≡ true = sym (is.exact v v_low) ∙ (sym (ap (has class) of_v.0) ∙ both.0) in
-      let in_w : test w ≡ true = sym (is.exact w w_low) ∙ (sym (ap (has class) of_w.0) ∙ both.1) in
-      and_from (test v && test w) (conflict g live v w) (and_from (test v) (test w) in_v in_w)
-      ((decide g live (local_at g v) (local_at g w) sets of_v.1 of_w.1).1 both.2)
-
-  -- who peels has a colour
-  full : (v : ℕ) → v < local_count g → Peels (local_count g) (conflict_within g live test) k v → is_some (colour_of colours v) ≡ true
-  full v low peels =
-      let fewer : Peels (local_count g) (adjacent coloured.graph) k v = peels_less (local_count g) k (adjacent coloured.graph) (conflict_within g live test) joined_conflict v peels in
-      coloured.colours_are.full v (subst (λ n. v < n) (sym coloured.conflicts.size) low) (subst (λ n. Peels n (adjacent coloured.graph) k v) (sym coloured.conflicts.size) fewer)
+-- ---- conflicts
 
 -- a local does not conflict with itself
 same_itself : (l : Local) → is_same l l ≡ true
@@ -211,19 +167,19 @@ module _ (decide : SetsDecideConflicts) (g : Graph) (live : LiveSets) (sets : Ar
       by None None one other is = inr (inr (one, other, is))
 
   suits_first : (v : ℕ) → v < local_count g → has first v ≡ suits_temporary g live v
-  suits_first v low = registers.classes.temporary.exact v low
+  suits_first v low = registers.apart.classes.temporary.exact v low
 
-  suits_second : (v : ℕ) → v < local_count g → has second v ≡ suits_callee_saves live v
-  suits_second v low = registers.classes.callee_saves.exact v low
+  saved : AreSecond g live colours second others
+  saved = are_second decide g live sets first colours second others registers
 
   listed : (xs : List ℕ) (c : ℕ) (r : ℕ) → c < length xs → r ≡ get_or xs c 0 → Contains xs r
   listed xs c r low is = (c, low, get_or_default xs c r 0 low ∙ sym is)
 
   colour_low : (v c : ℕ) → colour_of colours v ≡ Some c → c < length temporaries
-  colour_low v c is = registers.first_coloured.colours_are.below v c is
+  colour_low v c is = registers.apart.first_coloured.colours_are.below v c is
 
   other_low : (v c : ℕ) → colour_of others v ≡ Some c → c < length callee_saves
-  other_low v c is = registers.second_coloured.colours_are.below v c is
+  other_low v c is = (second_coloured registers).colours_are.below v c is
 
   in_temporary : (v r : ℕ) → v < local_count g → place_at locals v ≡ Temp r → Contains temporaries r × (suits_temporary g live v ≡ true)
   unfolding Kind
@@ -238,17 +194,17 @@ module _ (decide : SetsDecideConflicts) (g : Graph) (live : LiveSets) (sets : Ar
       by (inr (inl k)) = let place : place_at locals v ≡ Saved (k.1.0) = k.1.2 in absurd (cc (place, at))
       by (inr (inr k)) = let place : place_at locals v ≡ Slot (k.2.0) = k.2.1 in absurd (cc (place, at))
 
-  in_saved : (v r : ℕ) → v < local_count g → place_at locals v ≡ Saved r → Contains callee_saves r × (suits_callee_saves live v ≡ true)
+  in_saved : (v r : ℕ) → v < local_count g → place_at locals v ≡ Saved r → Contains callee_saves r × (suits_register g live v ≡ true)
   unfolding Kind
   in_saved v r low at = by (kind_of v low)
     where
-      by : Kind v → Contains callee_saves r × (suits_callee_saves live v ≡ true)
+      by : Kind v → Contains callee_saves r × (suits_register g live v ≡ true)
       by (inl k) = let place : place_at locals v ≡ Temp k.0 = k.2 in absurd (cc (place, at))
       by (inr (inl k)) =
           let h : HasColour second others callee_saves v k.1.0 = k.1.1 in
           let place : place_at locals v ≡ Saved (k.1.0) = k.1.2 in
           let same : k.1.0 ≡ r = cc (place, at) in
-          (listed callee_saves h.colour r (other_low v h.colour h.is_colour) (sym same ∙ h.is_register), sym (suits_second v low) ∙ h.member)
+          (listed callee_saves h.colour r (other_low v h.colour h.is_colour) (sym same ∙ h.is_register), saved.suits v low h.member)
       by (inr (inr k)) = let place : place_at locals v ≡ Slot (k.2.0) = k.2.1 in absurd (cc (place, at))
 
   slots_differ : (v w : ℕ) → v < local_count g → w < local_count g → v ≢ w → (a b : ℕ) → place_at locals v ≡ Slot a → place_at locals w ≡ Slot b → a ≢ b
@@ -281,7 +237,7 @@ module _ (decide : SetsDecideConflicts) (g : Graph) (live : LiveSets) (sets : Ar
           let register : k.0 ≡ l.0 = cc (one, two, same) in
           let colour : h.colour ≡ i.colour = registers_differ temporaries h.colour i.colour refl (colour_low v h.colour h.is_colour) (colour_low w i.colour i.is_colour)
           (sym h.is_register ∙ (register ∙ i.is_register)) in
-          proper decide g live sets (suits_temporary g live) first (length temporaries) colours registers.classes.temporary registers.first_coloured v w h.colour v_low w_low h.member i.member are
+          proper decide g live sets first (length temporaries) colours registers.apart.first_coloured v w h.colour v_low w_low h.member i.member are
           h.is_colour (i.is_colour ∙ ap (λ (n : ℕ). Some n) (sym colour))
       by (inl k) (inr (inl l)) = let one : place_at locals v ≡ Temp k.0 = k.2 in let two : place_at locals w ≡ Saved (l.1.0) = l.1.2 in cc (one, two, same)
       by (inl k) (inr (inr l)) = let one : place_at locals v ≡ Temp k.0 = k.2 in let two : place_at locals w ≡ Slot (l.2.0) = l.2.1 in cc (one, two, same)
@@ -294,8 +250,7 @@ module _ (decide : SetsDecideConflicts) (g : Graph) (live : LiveSets) (sets : Ar
           let register : k.1.0 ≡ l.1.0 = cc (one, two, same) in
           let colour : h.colour ≡ i.colour = registers_differ callee_saves h.colour i.colour refl (other_low v h.colour h.is_colour) (other_low w i.colour i.is_colour)
           (sym h.is_register ∙ (register ∙ i.is_register)) in
-          proper decide g live sets (suits_callee_saves live) second (length callee_saves) others registers.classes.callee_saves registers.second_coloured v w h.colour v_low w_low h.member i.member
-          are h.is_colour (i.is_colour ∙ ap (λ (n : ℕ). Some n) (sym colour))
+          proper decide g live sets second (length callee_saves) others (second_coloured registers) v w h.colour v_low w_low h.member i.member are h.is_colour (i.is_colour ∙ ap (λ (n : ℕ). Some n) (sym colour))
       by (inr (inl k)) (inr (inr l)) = let one : place_at locals v ≡ Saved (k.1.0) = k.1.2 in let two : place_at locals w ≡ Slot (l.2.0) = l.2.1 in cc (one, two, same)
       by (inr (inr k)) (inl l) = let one : place_at locals v ≡ Slot (k.2.0) = k.2.1 in let two : place_at locals w ≡ Temp l.0 = l.2 in cc (one, two, same)
       by (inr (inr k)) (inr (inl l)) = let one : place_at locals v ≡ Slot (k.2.0) = k.2.1 in let two : place_at locals w ≡ Saved (l.1.0) = l.1.2 in cc (one, two, same)
@@ -314,7 +269,7 @@ module _ (decide : SetsDecideConflicts) (g : Graph) (live : LiveSets) (sets : Ar
       member = suits_first v low ∙ suits
 
       some : is_some (colour_of colours v) ≡ true
-      some = full decide g live sets (suits_temporary g live) first (length temporaries) colours registers.classes.temporary registers.first_coloured v low peels
+      some = full decide g live sets first (length temporaries) colours registers.apart.first_coloured (suits_temporary g live) registers.apart.classes.temporary v low peels
 
       by : Kind v → is_in_temporary (place_at locals v) ≡ true
       by (inl k) = let place : place_at locals v ≡ Temp k.0 = k.2 in ap is_in_temporary place
@@ -327,10 +282,10 @@ module _ (decide : SetsDecideConflicts) (g : Graph) (live : LiveSets) (sets : Ar
   saved_full v low suits peels = by (kind_of v low)
     where
       member : has second v ≡ true
-      member = suits_second v low ∙ suits
+      member = saved.all v low suits
 
       some : is_some (colour_of others v) ≡ true
-      some = full decide g live sets (suits_callee_saves live) second (length callee_saves) others registers.classes.callee_saves registers.second_coloured v low peels
+      some = saved.full v low suits peels
 
       -- who is live at a site suits no temporary register
       not_both : suits_temporary g live v ≡ true → ⊥
@@ -343,6 +298,22 @@ module _ (decide : SetsDecideConflicts) (g : Graph) (live : LiveSets) (sets : Ar
       by (inr (inl k)) = let place : place_at locals v ≡ Saved (k.1.0) = k.1.2 in ap is_in_callee_saves place
       by (inr (inr k)) = absurd (has_register second others callee_saves v member some k.1)
 
+  either_full : ((w : ℕ) → w < local_count g → suits_callee_saves live w ≡ true → PeelsAmongAll g live w) → (v : ℕ) → v < local_count g → suits_temporary g live v ≡ true →
+      PeelsAmongAll g live v → is_in_register (place_at locals v) ≡ true
+  unfolding Kind
+  either_full all v low suits peels = by (kind_of v low)
+    where
+      -- a member of the first class without a register of that kind has no colour of it
+      lacks : register_of first colours temporaries v ≡ None → (o : Option ℕ) → colour_of colours v ≡ o → is_none (colour_of colours v) ≡ true
+      lacks none (Some c) is = absurd (has_register first colours temporaries v (suits_first v low ∙ suits) (ap (λ (o : Option ℕ). is_some o) is) none)
+      lacks none None is = ap (λ (o : Option ℕ). is_none o) is
+
+      by : Kind v → is_in_register (place_at locals v) ≡ true
+      by (inl k) = let place : place_at locals v ≡ Temp k.0 = k.2 in ap is_in_register place
+      by (inr (inl k)) = let place : place_at locals v ≡ Saved (k.1.0) = k.1.2 in ap is_in_register place
+      by (inr (inr k)) =
+          let has_colour = saved.either_full all v low suits peels (lacks k.0 (colour_of colours v) refl) in absurd (has_register second others callee_saves v has_colour.0 has_colour.1 k.1)
+
   pub are_allocated : AreAllocated g live locals
   are_allocated = record {
     count = homes.length_is;
@@ -352,4 +323,5 @@ module _ (decide : SetsDecideConflicts) (g : Graph) (live : LiveSets) (sets : Ar
     slots = homes.slots;
     temporary_full = temporary_full;
     saved_full = saved_full;
+    either_full = either_full;
   }

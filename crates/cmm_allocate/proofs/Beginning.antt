@@ -22,6 +22,7 @@ use Rattle.cmm_live.specs.Exact.{set_at}
 use Rattle.cmm_live.specs.Laws.{SetsAreClosed}
 use Rattle.cmm_live.specs.Locals.{local_number}
 use Rattle.cmm_located.specs.Entering.{HasEntry}
+use Rattle.cmm_hoisted.specs.Flow.{entry_tokens}
 use Rattle.cmm_located.specs.Relation.{variable_count}
 use Rattle.cmm_allocate.specs.declared.procedure.ProcedurePlaces.{ProcedurePlaces}
 use Rattle.cmm_allocate.specs.Compiling.{compiled, live_before}
@@ -52,7 +53,7 @@ module _ (program : Program) (procs : List Proc) (graphs : List Graph) (found : 
   p = at.procedure
 
   abbrev first : Node
-  first = record { tokens = p.tokens; kind = Entry at.flow.entry.formals at.flow.entry.next }
+  first = record { tokens = entry_tokens g; kind = Entry at.flow.entry.formals at.flow.entry.next }
 
   there : node_of g g.first ≡ Some first
   there = at.flow.entry.node

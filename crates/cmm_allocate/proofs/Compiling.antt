@@ -45,9 +45,10 @@ use Rattle.cmm_graph.specs.declared.number.SiteId.{SiteId}
 use Rattle.cmm_graph.specs.GraphControl.{kind_at}
 use Rattle.cmm_live.specs.Sites.{site_of}
 use Rattle.cmm_located.specs.Steps.{IsClosed}
-use Rattle.cmm_flow.specs.Flow.{HasTokens}
-use Rattle.cmm_folded.specs.Laws.{FoldedFlowsAreGraphs, FoldedFlowsHaveSites, FoldedFlowsHaveTokens, FoldedFlowsWaitAtEach, FoldedFlowsWaitOnce, FoldedSetsAreOfProcedure}
-use Rattle.cmm_flow.specs.Relation.{longest, longest_of}
+use Rattle.cmm_program.specs.Bounds as bounds
+use Rattle.cmm_hoist.specs.Graphs.{HasTokensWithin}
+use Rattle.cmm_hoisted.specs.Flow.{IsFlowWithin}
+use Rattle.cmm_hoisted.specs.Laws.{HoistedFlowsAreGraphs, HoistedFlowsHaveSites, HoistedFlowsWaitAtEach, HoistedFlowsWaitOnce, HoistedSetsAreOfProcedure}
 use Rattle.cmm_flow.specs.Waiting.{WaitOnce}
 use Rattle.cmm_allocate.specs.declared.procedure.ProcedurePlaces.{ProcedurePlaces}
 use Rattle.cmm_allocate.specs.Compiling.{compiled, live_before, no_place}
@@ -72,18 +73,17 @@ pairs_counted p f placed =
     let count : (length f.pairs == length p.conts) ≡ true = grind (arith, pairs) in
     eqb-true (length f.pairs) (length p.conts) count
 
--- no node has more tokens than the longest procedure
-tokens_bounded : (procs : List Proc) (graphs : List Graph) (q n : ℕ) (g : Graph) (node : Node) → AllZip HasTokens procs graphs → slice_get graphs q ≡ Some g →
-    slice_get g.nodes n ≡ Some node → node.tokens ≤ longest_of procs
-tokens_bounded procs [] q n g node have is there = absurd (cc (is))
-tokens_bounded [] (x ∷ graphs) q n g node have is there = elim have [ ]
-tokens_bounded (p ∷ procs) (x ∷ graphs) zero n g node have is there =
+-- no node has more tokens than is said of the graphs
+tokens_bounded : (most greatest : ℕ) (procs : List Proc) (graphs : List Graph) (q n : ℕ) (g : Graph) (node : Node) → AllZip (IsFlowWithin most greatest) procs graphs →
+    slice_get graphs q ≡ Some g → slice_get g.nodes n ≡ Some node → node.tokens ≤ most
+tokens_bounded most greatest procs [] q n g node have is there = absurd (cc (is))
+tokens_bounded most greatest [] (x ∷ graphs) q n g node have is there = elim have [ ]
+tokens_bounded most greatest (p ∷ procs) (x ∷ graphs) zero n g node have is there =
     let same : x ≡ g = cc (is) in
-    let all = subst (λ g. HasTokens p g) same have.0 in
-    let passes = list_all_get (λ (node : Node). nat_le node.tokens p.tokens) g.nodes n node all there in
-    let few : node.tokens ≤ p.tokens = grind (arith, nat_tests, passes) in
-    omega (arith, few)
-tokens_bounded (p ∷ procs) (x ∷ graphs) (suc q) n g node have is there = omega (arith, tokens_bounded procs graphs q n g node have.1 is there)
+    let all : HasTokensWithin most g = subst (HasTokensWithin most) same have.0.tokens in
+    let passes = list_all_get (λ (node : Node). nat_le node.tokens most) g.nodes n node all there in
+    grind (arith, nat_tests, passes)
+tokens_bounded most greatest (p ∷ procs) (x ∷ graphs) (suc q) n g node have is there = tokens_bounded most greatest procs graphs q n g node have.1 is there
 
 -- a return in range is by an exit that it may have
 return_in_range : (g : Graph) (kind : NodeKind) → is_kind g kind ≡ true → IsInRange kind
@@ -91,7 +91,7 @@ return_in_range g (Return exit alternates results) is =
     let both = and_parts (nat_le exit alternates) (list_all (is_argument g) results) is in grind (arith, nat_tests, both.0)
 return_in_range g kind is = tt
 
-module _ (are_graphs : FoldedFlowsAreGraphs) (closed : SetsAreClosed) (once : FoldedFlowsWaitOnce) (have_sites : FoldedFlowsHaveSites) (wait_at_each : FoldedFlowsWaitAtEach) (s : Setting) (graphs : List Graph)
+module _ (are_graphs : HoistedFlowsAreGraphs) (closed : SetsAreClosed) (once : HoistedFlowsWaitOnce) (have_sites : HoistedFlowsHaveSites) (wait_at_each : HoistedFlowsWaitAtEach) (s : Setting) (graphs : List Graph)
     (found : List ProcedurePlaces) (runs : RunsOverPlaces s graphs found) where
   abbrev c : Compiled
   c = compiled graphs found
@@ -203,24 +203,24 @@ module _ (are_graphs : FoldedFlowsAreGraphs) (closed : SetsAreClosed) (once : Fo
       ∙ (pairs_counted at.procedure at.places.frame (at.has.frame.placed code_base refl)
       ∙ ap (λ (p : Proc). length p.conts) same))
 
-  within : AllZip HasTokens s.program.procs graphs → IsWithinMost c (longest s.program)
-  within have position = by (slice_get graphs position.procedure) refl
+  within : IsWithinMost c runs.within.most
+  within position = by (slice_get graphs position.procedure) refl
     where
       tokens_of : Option Node → ℕ
       tokens_of o = elim o as (λ _. ℕ) [ Some node ↦ node.tokens | None ↦ 0 ]
 
       in_it : (g : Graph) → slice_get graphs position.procedure ≡ Some g → (o : Option Node) → node_of g position.node ≡ o →
-          elim o as (λ _. ℕ) [ Some node ↦ node.tokens | None ↦ 0 ] ≤ longest s.program
-      in_it g is (Some node) there = tokens_bounded s.program.procs graphs position.procedure position.node.number g node have is there
+          elim o as (λ _. ℕ) [ Some node ↦ node.tokens | None ↦ 0 ] ≤ runs.within.most
+      in_it g is (Some node) there = tokens_bounded runs.within.most (bounds.longest s.program.procs) s.program.procs graphs position.procedure position.node.number g node runs.within.all is there
       in_it g is None there = omega arith
 
       by : (o : Option Graph) → slice_get graphs position.procedure ≡ o →
-          elim (with_some o (λ g. node_of g position.node)) as (λ _. ℕ) [ Some node ↦ node.tokens | None ↦ 0 ] ≤ longest s.program
+          elim (with_some o (λ g. node_of g position.node)) as (λ _. ℕ) [ Some node ↦ node.tokens | None ↦ 0 ] ≤ runs.within.most
       by (Some g) is = in_it g is (node_of g position.node) refl
       by None is = omega arith
 
-  are_compiled : AllZip HasTokens s.program.procs graphs → IsCompiled s c live (longest s.program)
-  are_compiled have = record {
+  are_compiled : IsCompiled s c live runs.within.most
+  are_compiled = record {
     planned = planned;
     frames = runs.frames;
     closed = are_closed;
@@ -231,7 +231,7 @@ module _ (are_graphs : FoldedFlowsAreGraphs) (closed : SetsAreClosed) (once : Fo
     cuts = cuts;
     own_cuts = own_cuts;
     pairs = pairs;
-    within = within have;
+    within = within;
   }
 
   -- ---- the client
@@ -257,7 +257,7 @@ module _ (are_graphs : FoldedFlowsAreGraphs) (closed : SetsAreClosed) (once : Fo
       by (Some x) there is = slice_get_within p.sites site x there
       by None there is = absurd (cc (is))
 
-  knows_live : FoldedSetsAreOfProcedure → KnowsLive s c
+  knows_live : HoistedSetsAreOfProcedure → KnowsLive s c
   knows_live of_procedure q site v p is less is_live =
       let at = procedure_beside are_graphs s graphs found runs q p is in
       let same : at.procedure ≡ p = same_Some at.procedure p (sym at.is_procedure ∙ is) in
@@ -291,12 +291,10 @@ module _ (are_graphs : FoldedFlowsAreGraphs) (closed : SetsAreClosed) (once : Fo
           (all_get (λ (node : Node). HasSite at.procedure at.graph node.kind) at.graph.nodes n.number node have there) e
       by at have None there e = absurd (cc)
 
-pub places_are_compiled : FoldedFlowsAreGraphs → SetsAreClosed → FoldedFlowsWaitOnce → FoldedFlowsHaveSites → FoldedFlowsWaitAtEach → FoldedFlowsHaveTokens → PlacesAreCompiled
-places_are_compiled are_graphs closed once have_sites wait_at_each have_tokens s graphs found runs =
-    are_compiled are_graphs closed once have_sites wait_at_each s graphs found runs
-    (have_tokens s.program graphs runs.range runs.flows)
+pub places_are_compiled : HoistedFlowsAreGraphs → SetsAreClosed → HoistedFlowsWaitOnce → HoistedFlowsHaveSites → HoistedFlowsWaitAtEach → PlacesAreCompiled
+places_are_compiled are_graphs closed once have_sites wait_at_each s graphs found runs = are_compiled are_graphs closed once have_sites wait_at_each s graphs found runs
 
-pub places_are_showable : FoldedFlowsAreGraphs → SetsAreClosed → FoldedFlowsWaitOnce → FoldedFlowsHaveSites → FoldedFlowsWaitAtEach → FoldedSetsAreOfProcedure → PlacesAreShowable
+pub places_are_showable : HoistedFlowsAreGraphs → SetsAreClosed → HoistedFlowsWaitOnce → HoistedFlowsHaveSites → HoistedFlowsWaitAtEach → HoistedSetsAreOfProcedure → PlacesAreShowable
 places_are_showable are_graphs closed once have_sites wait_at_each of_procedure s graphs found runs = record {
   variables = variables are_graphs closed once have_sites wait_at_each s graphs found runs;
   live = knows_live are_graphs closed once have_sites wait_at_each s graphs found runs of_procedure;

@@ -5,7 +5,10 @@ pub mod Touching
 pub mod Living
 pub mod SlotOrder
 pub mod Peeling
+pub mod Left
+pub mod Coloured
 pub mod Classing
+pub mod Sharing
 pub mod Suiting
 pub mod Allocating
 pub mod Placing

@@ -25,7 +25,7 @@ use Rattle.cmm_flow.proofs.Shared.{same_node}
 use Rattle.cmm_allocate.proofs.Members.{contains_mapped, none_contained}
 
 -- a member of a set is below its size
-has_within : (set : List Bool) (u : ℕ) → has set u ≡ true → u < length set
+pub has_within : (set : List Bool) (u : ℕ) → has set u ≡ true → u < length set
 has_within [] u is = absurd (cc)
 has_within (b ∷ set) zero is = omega arith
 has_within (b ∷ set) (suc u) is = omega (arith, has_within set u is)

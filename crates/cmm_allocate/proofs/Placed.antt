@@ -109,5 +109,5 @@ entries_are_short p g k can has = record {
   words =
       let zeroed = ap (λ (l : List ℕ). length l) has.zeroed in
       let pairs = pairs_counted p k.frame (has.frame.placed code_base refl) in
-      omega (arith, zeroed, pairs, few_members (set_at k.live.before g.first.number), set_short g k.live g.first.number has.live, can.bounded, can.continuations);
+      omega (arith, zeroed, pairs, few_members (set_at k.live.before g.first.number), set_short g k.live g.first.number has.live, can.entry, can.continuations);
 }

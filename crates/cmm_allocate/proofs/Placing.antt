@@ -26,9 +26,9 @@ use Rattle.cmm_live.specs.Locals.{local_count, local_number}
 use Rattle.cmm_chain.specs.declared.frame.Location.{Location}
 use Rattle.cmm_located.specs.SameOrders.{ReadsAreLive}
 use Rattle.cmm_located.specs.Steps.{KeepsLive}
-use Rattle.cmm_folded.specs.Flow.{IsFoldedFlow}
-use Rattle.cmm_folded.specs.Laws.{FoldedFlowsAreGraphs, HasEntry}
-use Rattle.cmm_folded.proofs.Shared.{folded_flows_have_entries}
+use Rattle.cmm_hoisted.specs.Flow.{IsHoistedFlow}
+use Rattle.cmm_hoisted.specs.Laws.{HoistedFlowsAreGraphs, HasEntry}
+use Rattle.cmm_hoisted.proofs.Shared.{hoisted_flows_have_entries}
 use Rattle.cmm_allocate.specs.declared.procedure.ProcedurePlaces.{ProcedurePlaces}
 use Rattle.cmm_allocate.specs.Compiling.{compiled, live_before, no_place}
 use Rattle.cmm_allocate.specs.Placed.{place_at}
@@ -40,16 +40,16 @@ use Rattle.cmm_allocate.proofs.Touching.{reads_local, writes_local}
 
 -- ---- the three lists side by side
 
--- a graph is the folded flow of a procedure, and one of the procedure
+-- a graph is the hoisted flow of a procedure, and one of the procedure
 pub record IsFlowGraph (p : Proc) (g : Graph) : Type 0 where
-  pub flow : IsFoldedFlow p g
+  pub flow : IsHoistedFlow p g
   pub valid : IsValid g
   pub variables : g.variables ≡ length p.vars
   pub formals : with_some (node_of g g.first) (λ node. formals_of node.kind) ≡ Some (range_with_len 0 p.formals)
   pub continuations : map (taken_at g) g.continuations ≡ map (λ c. Some (parameter_targets p c)) p.conts
-  pub entry : HasEntry p g
+  pub entry : HasEntry g
 
-flow_graph : FoldedFlowsAreGraphs → (program : Program) (p : Proc) (g : Graph) → IsProcInRange program p → IsFoldedFlow p g → IsFlowGraph p g
+flow_graph : HoistedFlowsAreGraphs → (program : Program) (p : Proc) (g : Graph) → IsProcInRange program p → IsHoistedFlow p g → IsFlowGraph p g
 flow_graph are_graphs program p g range is =
     let graph = are_graphs program p g range is in
     record {
@@ -58,10 +58,10 @@ flow_graph are_graphs program p g range is =
       variables = graph.variables;
       formals = graph.formals;
       continuations = graph.continuations;
-      entry = folded_flows_have_entries p g is;
+      entry = hoisted_flows_have_entries p g is;
     }
 
-flow_graphs : FoldedFlowsAreGraphs → (program : Program) (procs : List Proc) (graphs : List Graph) → All (IsProcInRange program) procs → AllZip IsFoldedFlow procs graphs →
+flow_graphs : HoistedFlowsAreGraphs → (program : Program) (procs : List Proc) (graphs : List Graph) → All (IsProcInRange program) procs → AllZip IsHoistedFlow procs graphs →
     AllZip IsFlowGraph procs graphs
 flow_graphs are_graphs program [] [] range are = tt
 flow_graphs are_graphs program [] (g ∷ graphs) range are = are
@@ -122,7 +122,7 @@ as_many (p ∷ procs) (g ∷ graphs) [] q flows have is = elim have [ ]
 as_many (p ∷ procs) (g ∷ graphs) (k ∷ found) zero flows have is = omega arith
 as_many (p ∷ procs) (g ∷ graphs) (k ∷ found) (suc q) flows have is = omega (arith, as_many procs graphs found q flows.1 have.1 is)
 
-module _ (are_graphs : FoldedFlowsAreGraphs) (s : Setting) (graphs : List Graph) (found : List ProcedurePlaces) (runs : RunsOverPlaces s graphs found) where
+module _ (are_graphs : HoistedFlowsAreGraphs) (s : Setting) (graphs : List Graph) (found : List ProcedurePlaces) (runs : RunsOverPlaces s graphs found) where
   flows_in_range : AllZip IsFlowGraph s.program.procs graphs
   flows_in_range = flow_graphs are_graphs s.program s.program.procs graphs runs.range.procedures runs.flows
 

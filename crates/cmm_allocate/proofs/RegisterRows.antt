@@ -1,7 +1,9 @@
 -- Worked rows: what `places` gives on small graphs.
 --     main() { bits64 a; a = 1; return (a); }
 --     main() { bits64 a; a = 1; yield(0); return (a); }
-use Rattle.std.proofs.Common.{◌≡◌, true, false, [], ◌∷◌, List, Some, refl, lit<}
+--     main(bits64 a, bits64 b, bits64 c, bits64 d, bits64 e, bits64 f, bits64 g, bits64 h, bits64 i) { return (a, b, c, d, e, f, g, h, i); }
+use Rattle.std.proofs.Common.{◌≡◌, ◌==◌, ◌||◌, true, false, [], ◌∷◌, List, Some, map, replicate, refl, lit<}
+use Rattle.std.specs.List.{list_all, range_with_len}
 use Rattle.cmm_words.specs.declared.constant.Constant.TheVariants as constant
 use Rattle.cmm_words.specs.declared.width.Width.TheVariants.{W64}
 use Rattle.cmm_program.specs.declared.procedure.Target.TheVariants as target
@@ -10,11 +12,11 @@ use Rattle.cmm_graph.specs.declared.node.NodeKind.TheVariants.{Entry, CopyIn, As
 use Rattle.cmm_graph.specs.declared.operand.Destination.TheVariants as destination
 use Rattle.cmm_graph.specs.declared.operand.Operand.TheVariants as operand
 use Rattle.cmm_graph.specs.declared.operand.Rvalue.TheVariants as rvalue
-use Rattle.cmm_graph.proofs.Shared.{n, v, arg}
+use Rattle.cmm_graph.proofs.Shared.{n, v, arg, variable}
 use Rattle.cmm_live.specs.declared.live_sets.LiveSets.{LiveSets}
 use Rattle.cmm_chain.specs.declared.frame.Location.{Location}
-use Rattle.cmm_allocate.specs.Allocated.{AreAllocated, is_in_callee_saves, is_in_temporary}
-use Rattle.cmm_allocate.specs.Classes.{suits_callee_saves, suits_temporary}
+use Rattle.cmm_allocate.specs.Allocated.{AreAllocated, is_in_callee_saves, is_in_register, is_in_temporary}
+use Rattle.cmm_allocate.specs.Classes.{conflict, suits_callee_saves, suits_temporary}
 use Rattle.cmm_allocate.specs.Placed.{place_at}
 
 -- ---- a is live at no site
@@ -69,3 +71,26 @@ suits_other = (refl, refl)
 
 in_callee_saves : (locals : List Location) → AreAllocated yielded live_in_yielded locals → is_in_callee_saves (place_at locals 0) ≡ true
 in_callee_saves locals are = are.saved_full 0 (lit< tt) refl (record { earlier = []; peeling = refl })
+
+-- ---- nine are alive at once, at no site: they conflict, and there are eight temporary registers
+
+abbrev nine : Graph
+nine = record {
+  variables = 9;
+  temporaries = 0;
+  nodes = record { tokens = 60; kind = Entry (map variable (range_with_len 0 9)) (n 1) }
+      ∷ record { tokens = 20; kind = Return 0 0 (map (λ k. arg (v k)) (range_with_len 0 9)) } ∷ record { tokens = 1; kind = Stop }
+      ∷ record { tokens = 1; kind = Goto (n 2) } ∷ [];
+  first = n 0;
+  continuations = [];
+}
+
+abbrev live_in_nine : LiveSets
+live_in_nine = record { before = replicate 9 false ∷ replicate 9 true ∷ replicate 9 false ∷ replicate 9 false ∷ []; sites = []; cuts = [] }
+
+all_conflict : list_all (λ v. list_all (λ w. (v == w) || conflict nine live_in_nine v w) (range_with_len 0 9)) (range_with_len 0 9) ≡ true
+all_conflict = refl
+
+-- the last one has a register all the same: there are eleven that a callee gives back
+last_in_register : (locals : List Location) → AreAllocated nine live_in_nine locals → is_in_register (place_at locals 8) ≡ true
+last_in_register locals are = are.either_full (λ w less suits. absurd (cc (suits))) 8 (lit< tt) refl (record { earlier = []; peeling = refl })

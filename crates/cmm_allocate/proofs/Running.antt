@@ -23,10 +23,9 @@ use Rattle.cmm_located.specs.Compiled.{Compiled}
 use Rattle.cmm_located.specs.LocatedMachine.{located_start}
 use Rattle.cmm_located.specs.Simulating.{LocatedRunsFollowGraphs, step_cost}
 use Rattle.cmm_located.specs.Steps.{kind_of_youngest, leads_on}
-use Rattle.cmm_folded.specs.Flow.{IsFoldedFlow}
+use Rattle.cmm_hoisted.specs.Flow.{IsHoistedFlow}
 use Rattle.cmm_flow.specs.Laws as flow
-use Rattle.cmm_flow.specs.Laws.{AreCosts}
-use Rattle.cmm_folded.specs.Laws.{FoldedFlowsAreBounded, FoldedFlowsAreGraphs, FoldedFlowsFollow}
+use Rattle.cmm_hoisted.specs.Laws.{AreCostsWithin, FlowsWithinAreFewer, HoistedFlowsAreBounded, HoistedFlowsAreGraphs, HoistedFlowsFollow, HoistedFlowsHaveRoom}
 use Rattle.cmm_flow.specs.Relation.{longest}
 use Rattle.cmm_allocate.specs.Compiling.{compiled, live_before}
 use Rattle.cmm_allocate.specs.Places.{CanBePlaced}
@@ -34,26 +33,27 @@ use Rattle.cmm_allocate.specs.Laws.{FlowsCanBePlaced, PlacesAreCompiled, PlacesA
 
 -- ---- room
 
-can_be_placed : FoldedFlowsAreGraphs → FoldedFlowsAreBounded → (program : Program) (p : Proc) (g : Graph) → IsProcInRange program p → IsFoldedFlow p g → CanBePlaced p g
-can_be_placed are_graphs are_bounded program p g range is = record {
+can_be_placed : HoistedFlowsAreGraphs → HoistedFlowsAreBounded → HoistedFlowsHaveRoom → (program : Program) (p : Proc) (g : Graph) → IsProcInRange program p → IsHoistedFlow p g → CanBePlaced p g
+can_be_placed are_graphs are_bounded have_room program p g range is = record {
   frames = range.frames;
   bounded = are_bounded program p g range is;
+  entry = (have_room program p g range is).frame;
   continuations = sym (length-map g.continuations (taken_at g))
       ∙ (ap (λ l. length l) (are_graphs program p g range is).continuations ∙ length-map p.conts (λ (c : Cont). Some (parameter_targets p c)));
 }
 
-all_can : FoldedFlowsAreGraphs → FoldedFlowsAreBounded → (program : Program) (procs : List Proc) (graphs : List Graph) → All (IsProcInRange program) procs → AllZip IsFoldedFlow procs graphs →
+all_can : HoistedFlowsAreGraphs → HoistedFlowsAreBounded → HoistedFlowsHaveRoom → (program : Program) (procs : List Proc) (graphs : List Graph) → All (IsProcInRange program) procs → AllZip IsHoistedFlow procs graphs →
     AllZip CanBePlaced procs graphs
-all_can are_graphs are_bounded program [] [] range are = tt
-all_can are_graphs are_bounded program [] (g ∷ graphs) range are = are
-all_can are_graphs are_bounded program (p ∷ procs) [] range are = are
-all_can are_graphs are_bounded program (p ∷ procs) (g ∷ graphs) range are = (
-  can_be_placed are_graphs are_bounded program p g (All-head (IsProcInRange program) p procs range) are.0,
-  all_can are_graphs are_bounded program procs graphs (All-tail (IsProcInRange program) p procs range) are.1,
+all_can are_graphs are_bounded have_room program [] [] range are = tt
+all_can are_graphs are_bounded have_room program [] (g ∷ graphs) range are = are
+all_can are_graphs are_bounded have_room program (p ∷ procs) [] range are = are
+all_can are_graphs are_bounded have_room program (p ∷ procs) (g ∷ graphs) range are = (
+  can_be_placed are_graphs are_bounded have_room program p g (All-head (IsProcInRange program) p procs range) are.0,
+  all_can are_graphs are_bounded have_room program procs graphs (All-tail (IsProcInRange program) p procs range) are.1,
 )
 
-pub flows_can_be_placed : FoldedFlowsAreGraphs → FoldedFlowsAreBounded → FlowsCanBePlaced
-flows_can_be_placed are_graphs are_bounded program graphs range are = all_can are_graphs are_bounded program program.procs graphs range.procedures are
+pub flows_can_be_placed : HoistedFlowsAreGraphs → HoistedFlowsAreBounded → HoistedFlowsHaveRoom → FlowsCanBePlaced
+flows_can_be_placed are_graphs are_bounded have_room program graphs range are = all_can are_graphs are_bounded have_room program program.procs graphs range.procedures are
 
 -- ---- costs
 
@@ -87,11 +87,11 @@ module _ (c : Compiled) (most : ℕ) (st : State Position) where
   resting_is Running = omega (arith, at_most (leads_on (kind_of_youngest c st)))
   resting_is status = omega arith
 
-pub are_costs : (s : Setting) (c : Compiled) → AreCosts s c.graphs (step_cost c (longest s.program)) (longest s.program)
-are_costs s c = record {
-  leading = λ st running leads. (let cost = leading_cost c (longest s.program) st running leads in omega (arith, cost));
-  running = λ st running. omega (arith, running_is c (longest s.program) st running);
-  resting = λ st. resting_is c (longest s.program) st st.store.status;
+pub are_costs : (c : Compiled) (most : ℕ) → AreCostsWithin c.graphs (step_cost c most) most
+are_costs c most = record {
+  leading = λ st running leads. (let cost = leading_cost c most st running leads in omega (arith, cost));
+  running = λ st running. omega (arith, running_is c most st running);
+  resting = λ st. resting_is c most st st.store.status;
 }
 
 -- ---- runs
@@ -103,16 +103,18 @@ main_there s less = by s.program.procs less
     by [] less = absurd (omega arith)
     by (p ∷ procs) less = (get_or (p ∷ procs) s.program.main p, slice_get-get_or (p ∷ procs) s.program.main p less)
 
-pub places_follow_programs : LocatedRunsFollowGraphs → FoldedFlowsFollow → PlacesAreCompiled → PlacesAreShowable → LocatedRunsFollowPrograms
-places_follow_programs located_runs_follow_graphs folded_flows_follow are_compiled are_showable s graphs found input set bytes runs =
+pub places_follow_programs : LocatedRunsFollowGraphs → HoistedFlowsFollow → PlacesAreCompiled → PlacesAreShowable → LocatedRunsFollowPrograms
+places_follow_programs located_runs_follow_graphs hoisted_flows_follow are_compiled are_showable s graphs found input set bytes runs =
     let c = compiled graphs found in
     let main = main_there s runs.range.main in
-    follows_trans (folded_flows_follow s graphs input (step_cost c (longest s.program)) (longest s.program) set bytes runs.flows (are_costs s c))
-    (located_runs_follow_graphs s c (live_before found) (longest s.program) main.0 input (are_compiled s graphs found runs) (are_showable s graphs found runs) main.1
+    let most = runs.within.most in
+    follows_trans (hoisted_flows_follow s graphs input (step_cost c most) runs.within set bytes (are_costs c most))
+    (located_runs_follow_graphs s c (live_before found) most main.0 input (are_compiled s graphs found runs) (are_showable s graphs found runs) main.1
     (runs.range.main_formals main.0 main.1))
 
-pub runs_begin_cheaply : PlacesAreCompiled → RunsBeginCheaply
-runs_begin_cheaply are_compiled s graphs found input runs =
+pub runs_begin_cheaply : PlacesAreCompiled → FlowsWithinAreFewer → RunsBeginCheaply
+runs_begin_cheaply are_compiled fewer s graphs found input runs =
     let c = compiled graphs found in
-    (are_compiled s graphs found runs).within
-    (let at = located_start s c input in record { procedure = at.procedure; node = at.node; temporaries = λ t. 0 })
+    let at = located_start s c input in
+    let few = (are_compiled s graphs found runs).within (record { procedure = at.procedure; node = at.node; temporaries = λ t. 0 }) in
+    omega (arith, few, fewer s.program graphs runs.range runs.within)

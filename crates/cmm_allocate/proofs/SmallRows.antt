@@ -36,11 +36,13 @@ use Rattle.cmm_located.specs.LocatedMachine.{located_machine, located_start}
 use Rattle.cmm_located.specs.SameOrders.{HasFrames}
 use Rattle.cmm_fold.proofs.Shared.{graph_itself}
 use Rattle.cmm_flow.specs.Flow.{IsFlow, IsFlowOf}
-use Rattle.cmm_folded.specs.Flow.{IsFoldedFlow}
+use Rattle.cmm_hoist.proofs.Shared.{left_within}
+use Rattle.cmm_hoist.specs.Graphs.{IsHoistedWithin}
+use Rattle.cmm_hoisted.specs.Flow.{AreFlowsWithin, IsHoistedFlow}
 use Rattle.cmm_flow.specs.Statements.{ListCode}
 use Rattle.cmm_flow.specs.Waiting.{times, waiting_sites}
 use Rattle.cmm_allocate.specs.declared.procedure.ProcedurePlaces.{ProcedurePlaces}
-use Rattle.cmm_allocate.specs.Allocated.{AreAllocated, is_in_temporary, temporaries}
+use Rattle.cmm_allocate.specs.Allocated.{AreAllocated, is_in_register, is_in_temporary, temporaries}
 use Rattle.cmm_allocate.specs.Classes.{conflict, suits_callee_saves, suits_temporary}
 use Rattle.cmm_allocate.specs.Compiling.{compiled}
 use Rattle.cmm_allocate.specs.Laws.{RunsOverPlaces}
@@ -109,9 +111,15 @@ answer = record {
   covered = λ p range sites. refl;
 }
 
--- it has no operator, so that it is folded
-is_folded_flow : IsFoldedFlow main graph
-is_folded_flow = record { flow = graph; is_flow = answer; stands = graph_itself graph }
+-- it has no operator, so that it is folded, and no loop, so that nothing is hoisted
+left : IsHoistedWithin 20 20 graph graph
+left = left_within 20 20 graph record { tokens = 20; formals = []; next = n 1; node = refl } refl (lit≤ tt)
+
+abbrev is_hoisted_flow : IsHoistedFlow main graph
+is_hoisted_flow = record { folded = graph; is_folded = record { flow = graph; is_flow = answer; stands = graph_itself graph }; hoisted = left.hoisted }
+
+within : AreFlowsWithin small.program (graph ∷ [])
+within = record { most = 20; all = (record { flow = is_hoisted_flow; tokens = left.tokens; spared = left.spared }, tt) }
 
 -- ---- the program is in range
 
@@ -237,10 +245,11 @@ allocated = record {
   slots = refl;
   temporary_full = λ v less suits peels. subst (λ v. is_in_temporary (place_at places.locals v) ≡ true) (first_only v less) refl;
   saved_full = λ v less suits peels. (let none : suits_callee_saves sets 0 ≡ true = subst (λ v. suits_callee_saves sets v ≡ true) (sym (first_only v less)) suits in absurd (cc (none)));
+  either_full = λ all v less suits peels. subst (λ v. is_in_register (place_at places.locals v) ≡ true) (first_only v less) refl;
 }
 
 can_be_placed : CanBePlaced main graph
-can_be_placed = record { frames = in_range.frames; bounded = lit≤ tt; continuations = refl }
+can_be_placed = record { frames = in_range.frames; bounded = lit≤ tt; entry = lit≤ tt; continuations = refl }
 
 has_places : HasPlaces main graph places
 has_places = record { allocated = allocated; locals = allocated_suit sets_are_closed sets_decide_conflicts graph sets places.locals are_live allocated; frame = is_frame; live = are_live; zeroed = refl }
@@ -263,7 +272,7 @@ frames_are = record { size = sizes; pairs = pairs; stack = stacks }
     stacks (suc q) is = absurd (cc (is))
 
 runs : RunsOverPlaces small (graph ∷ []) (places ∷ [])
-runs = record { range = range; flows = (is_folded_flow, tt); places = (has_places, tt); frames = frames_are }
+runs = record { range = range; flows = (is_hoisted_flow, tt); within = within; places = (has_places, tt); frames = frames_are }
 
 is_set_up : IsSetUp small
 is_set_up = record { program = range; placement = record { rows = refl; ascending = refl }; top = lit< tt }

@@ -1,5 +1,5 @@
 -- Places that a colouring gives suit what is live where.
-use Rattle.std.proofs.Common.{◌≡◌, ◌≢◌, inl, inr, ℕ, zero, suc, ◌+◌, ◌-◌, ◌%◌, ◌<◌, nat_lt, Bool, true, false, ◌&&◌, not, Contains, List, [], ◌∷◌, get_or, length, slice_get, Some, refl, ap, sym, ◌∙◌, subst, arith}
+use Rattle.std.proofs.Common.{◌≡◌, ◌≢◌, inl, inr, ℕ, zero, suc, ◌+◌, ◌-◌, ◌%◌, ◌<◌, nat_lt, Bool, true, false, ◌&&◌, ◌||◌, not, Contains, List, [], ◌∷◌, get_or, length, slice_get, Some, refl, ap, sym, ◌∙◌, subst, arith}
 use Rattle.std.proofs.lemmas.Bool.{and_from, eq-eqb, or_left, or_right}
 use Rattle.std.proofs.lemmas.Bool.Decides.{nat_tests}
 use Rattle.std.specs.List.{list_all, list_any}
@@ -112,10 +112,16 @@ module _ (closed : SetsAreClosed) (decide : SetsDecideConflicts) (g : Graph) (li
       refused true true is = refl
       refused false true is = refl
 
+  -- who suits registers of neither kind has none
+  refused : (a b : Bool) → a ≡ false → b ≡ false → (a || b) ≡ true → ⊥
+  refused true b is other either = cc (is)
+  refused false true is other either = cc (other)
+  refused false false is other either = cc (either)
+
   in_slot : (v : ℕ) → v < local_count g → suits_temporary g live v ≡ false → suits_callee_saves live v ≡ false → (l : Location) → place_at locals v ≡ l →
       (offset : ℕ) × (place_at locals v ≡ Slot offset)
   in_slot v low none other (Slot offset) is = (offset, is)
-  in_slot v low none other (Saved r) is = let suits : suits_callee_saves live v ≡ true = (are.saved v r low is).1 in absurd (cc (other, suits))
+  in_slot v low none other (Saved r) is = absurd (refused (suits_callee_saves live v) (suits_temporary g live v) other none (are.saved v r low is).1)
   in_slot v low none other (Temp r) is = let suits : suits_temporary g live v ≡ true = (are.temporary v r low is).1 in absurd (cc (none, suits))
 
   -- ---- conflicts

@@ -41,6 +41,11 @@ suits_temporary g live v = not (is_live_past_cut g live v || is_in_some live.sit
 abbrev pub suits_callee_saves : LiveSets → ℕ → Bool
 suits_callee_saves live v = is_in_some live.sites v && not (is_in_some live.cuts v)
 
+-- A local suits registers of some kind. One that suits temporary registers may have a callee-saves register as well: it is live at no site, and so on no
+-- cut exit of any, and no cut statement leads to where it is live, so nothing comes in between that loses a register of either kind.
+abbrev pub suits_register : Graph → LiveSets → ℕ → Bool
+suits_register g live v = suits_callee_saves live v || suits_temporary g live v
+
 -- two locals, by their numbers, may not share a place
 abbrev pub conflict : Graph → LiveSets → ℕ → ℕ → Bool
 conflict g live v w = conflicts g live (local_at g v) (local_at g w)

@@ -19,31 +19,32 @@ use Rattle.cmm_located.specs.Clients.{IsShowable}
 use Rattle.cmm_located.specs.LocatedMachine.{located_machine, located_start, located_step, tokens_at}
 use Rattle.cmm_located.specs.RunningSteps.{IsCompiled}
 use Rattle.cmm_located.specs.SameOrders.{HasFrames}
-use Rattle.cmm_folded.specs.Flow.{IsFoldedFlow}
+use Rattle.cmm_hoisted.specs.Flow.{AreFlowsWithin, IsHoistedFlow, entry_tokens}
 use Rattle.cmm_flow.specs.Relation.{longest}
 use Rattle.cmm_allocate.specs.declared.procedure.ProcedurePlaces.{ProcedurePlaces}
 use Rattle.cmm_allocate.specs.Compiling.{compiled, live_before}
 use Rattle.cmm_allocate.specs.Places.{CanBePlaced, HasPlaces, HavePlaces}
 use Rattle.cmm_allocate.specs.Placing.{placement_rows}
 
--- frames can be laid for the procedures of a program in range and their folded flows
+-- frames can be laid for the procedures of a program in range and their hoisted flows
 abbrev pub FlowsCanBePlaced : Type 0
-FlowsCanBePlaced = (p : Program) (graphs : List Graph) → IsInRange p → AllZip IsFoldedFlow p.procs graphs → AllZip CanBePlaced p.procs graphs
+FlowsCanBePlaced = (p : Program) (graphs : List Graph) → IsInRange p → AllZip IsHoistedFlow p.procs graphs → AllZip CanBePlaced p.procs graphs
 
 -- The code of an Entry writes few words: at most the callee-saves registers are saved, and what is made 0 and the two words of each continuation's pair
--- come to at most one for each token of the procedure.
-pub record EntryIsShort (p : Proc) (k : ProcedurePlaces) : Type 0 where
+-- come to at most one for each token of the Entry.
+pub record EntryIsShort (g : Graph) (k : ProcedurePlaces) : Type 0 where
   pub saved : length k.frame.saved ≤ length callee_saves
-  pub words : length k.zeroed + 2 * length k.frame.pairs ≤ p.tokens
+  pub words : length k.zeroed + 2 * length k.frame.pairs ≤ entry_tokens g
 
 abbrev pub EntriesAreShort : Type 0
-EntriesAreShort = (p : Proc) (g : Graph) (k : ProcedurePlaces) → CanBePlaced p g → HasPlaces p g k → EntryIsShort p k
+EntriesAreShort = (p : Proc) (g : Graph) (k : ProcedurePlaces) → CanBePlaced p g → HasPlaces p g k → EntryIsShort g k
 
--- A program in range runs in a setting over the folded flows of its procedures, and over their places. The rows of the placement
+-- A program in range runs in a setting over the hoisted flows of its procedures, which have tokens to spare for the constants that are kept, and over their places. The rows of the placement
 -- have the frames that were laid.
 pub record RunsOverPlaces (s : Setting) (graphs : List Graph) (found : List ProcedurePlaces) : Type 0 where
   pub range : IsInRange s.program
-  pub flows : AllZip IsFoldedFlow s.program.procs graphs
+  pub flows : AllZip IsHoistedFlow s.program.procs graphs
+  pub within : AreFlowsWithin s.program graphs
   pub places : HavePlaces s.program.procs graphs found
   pub frames : HasFrames s (compiled graphs found)
 
@@ -62,10 +63,10 @@ RowsArePlaced = (p : Program) (graphs : List Graph) (found : List ProcedurePlace
 
 -- ---- what runs ask
 
--- the program is compiled then, into nodes of at most the tokens of its longest procedure
+-- the program is compiled then, into nodes of at most so many tokens
 abbrev pub PlacesAreCompiled : Type 0
-PlacesAreCompiled = (s : Setting) (graphs : List Graph) (found : List ProcedurePlaces) → RunsOverPlaces s graphs found →
-    IsCompiled s (compiled graphs found) (live_before found) (longest s.program)
+PlacesAreCompiled = (s : Setting) (graphs : List Graph) (found : List ProcedurePlaces) (runs : RunsOverPlaces s graphs found) →
+    IsCompiled s (compiled graphs found) (live_before found) runs.within.most
 
 -- and the client can be shown its activations
 abbrev pub PlacesAreShowable : Type 0

@@ -1,5 +1,5 @@
 -- What the places of a procedure are, for its graph.
-use Rattle.std.specs.Prelude.{◌≡◌, List, length}
+use Rattle.std.specs.Prelude.{◌≡◌, ◌+◌, ◌*◌, ◌≤◌, List, length}
 use Rattle.std.specs.List.{AllZip, zip}
 use Rattle.cmm_bitset.specs.Sets.{members}
 use Rattle.cmm_program.specs.declared.procedure.Proc.{Proc}
@@ -8,15 +8,17 @@ use Rattle.cmm_graph.specs.declared.graph.Graph.{Graph}
 use Rattle.cmm_live.specs.Exact.{AreLiveSets, set_at}
 use Rattle.cmm_located.specs.Layouts.{IsFrameOf}
 use Rattle.cmm_flow.specs.Flow.{IsBounded}
+use Rattle.cmm_hoisted.specs.Flow.{entry_tokens}
 use Rattle.cmm_allocate.specs.declared.procedure.ProcedurePlaces.{ProcedurePlaces}
 use Rattle.cmm_allocate.specs.Allocated.{AreAllocated}
 use Rattle.cmm_allocate.specs.Placed.{ArePlaces}
 
--- A frame can be laid for a procedure and its graph: its parts are small, its locals and pairs have room in the bound on frames, and the
--- graph has its continuations.
+-- A frame can be laid for a procedure and its graph: its parts are small, its locals and pairs have room in the bound on frames and words in the tokens of the
+-- Entry, and the graph has its continuations.
 pub record CanBePlaced (p : Proc) (g : Graph) : Type 0 where
   pub frames : FitsFrames p
   pub bounded : IsBounded p g
+  pub entry : 8 * (g.variables + g.temporaries) + 16 * length g.continuations ≤ 8 * entry_tokens g
   pub continuations : length g.continuations ≡ length p.conts
 
 pub record HasPlaces (p : Proc) (g : Graph) (k : ProcedurePlaces) : Type 0 where

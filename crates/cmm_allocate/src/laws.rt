@@ -2,14 +2,14 @@
 
 ghost use Rattle.cmm_allocate.specs.Laws.{EntriesAreShort, FlowsCanBePlaced, PlacesAreCompiled, PlacesAreShowable, LocatedRunsFollowPrograms, RowsArePlaced, RowsHaveFrames, RunsBeginCheaply};
 
-/// Frames can be laid for the procedures of a program in range and their folded flows.
+/// Frames can be laid for the procedures of a program in range and their hoisted flows.
 pub fn flows_can_be_placed()
     ensures { FlowsCanBePlaced }
 {
-    cmm_folded::laws::folded_flows_are_graphs();
+    cmm_hoisted::laws::hoisted_flows_are_graphs();
 }
 
-/// What is written where a procedure is entered is bounded by its tokens.
+/// What is written where a procedure is entered is bounded by the tokens of its Entry.
 pub fn entries_are_short()
     ensures { EntriesAreShort }
 {}
@@ -29,10 +29,9 @@ pub fn places_are_compiled()
     ensures showable { PlacesAreShowable }
 {
     cmm_live::laws::sets_are_closed();
-    cmm_folded::laws::folded_flows_are_graphs();
-    cmm_folded::laws::folded_flows_wait_once();
-    cmm_folded::laws::folded_flows_follow_programs();
-    cmm_folded::laws::folded_flows_keep_liveness();
+    cmm_hoisted::laws::hoisted_flows_are_graphs();
+    cmm_hoisted::laws::hoisted_flows_wait_once();
+    cmm_hoisted::laws::hoisted_flows_keep_liveness();
 }
 
 /// So located runs do what the C-- machine does on the program, and nothing else: on every input they follow its run. A step of the machine
@@ -42,6 +41,7 @@ pub fn located_runs_follow_programs()
     ensures begins { RunsBeginCheaply }
 {
     cmm_located::laws::located_runs_follow_graphs();
-    cmm_folded::laws::folded_flows_follow_programs();
+    cmm_hoisted::laws::flows_hoist();
+    cmm_hoisted::laws::hoisted_flows_follow_programs();
     places_are_compiled();
 }

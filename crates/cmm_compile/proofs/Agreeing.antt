@@ -32,7 +32,7 @@ use Rattle.cmm_image_machine.specs.Laws.{ImagesKeepFrames}
 use Rattle.cmm_image_machine.specs.Machine.{Launch, first_run, map_of}
 use Rattle.cmm_image_machine.specs.Observed.{image_machine}
 use Rattle.cmm_graph.specs.declared.graph.Graph.{Graph}
-use Rattle.cmm_folded.specs.Flow.{IsFoldedFlow}
+use Rattle.cmm_hoisted.specs.Flow.{IsHoistedFlow}
 use Rattle.cmm_flow.specs.Relation as flow
 use Rattle.cmm_image.specs.ImageFormat.{is_in_code}
 use Rattle.cmm_format.specs.Formats.{AreBytes}
@@ -117,7 +117,7 @@ record Promises : Type 0 where
 
 module _ (promises : Promises) (p : Program) (graphs : List Graph) (found : List ProcedurePlaces) (t : Text) (i : ImageParts) (made : IsMade p graphs found t i) where
   graph_count : length graphs ≡ length p.procs
-  graph_count = AllZip-long IsFoldedFlow p.procs graphs made.flows
+  graph_count = AllZip-long IsHoistedFlow p.procs graphs made.flows
 
   found_count : length found ≡ length p.procs
   found_count =

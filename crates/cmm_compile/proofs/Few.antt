@@ -8,15 +8,15 @@ use Rattle.cmm_program.specs.declared.procedure.Site.{Site}
 use Rattle.cmm_program.specs.declared.program.Program.{Program}
 use Rattle.cmm_graph.specs.declared.graph.Graph.{Graph}
 use Rattle.cmm_flow.specs.Flow.{IsBounded}
-use Rattle.cmm_folded.specs.Flow.{IsFoldedFlow}
-use Rattle.cmm_folded.specs.Laws.{FoldedFlowsAreBounded}
+use Rattle.cmm_hoisted.specs.Flow.{IsHoistedFlow}
+use Rattle.cmm_hoisted.specs.Laws.{HoistedFlowsAreBounded}
 use Rattle.cmm_live.specs.Locals.{local_count}
 use Rattle.cmm_link.specs.Linked.{HaveFewSpans}
 
 abbrev HasFewLocals : Graph → Type 0
 HasFewLocals g = local_count g < 2 ^ 32
 
-pub few_locals : FoldedFlowsAreBounded → (p : Program) (procs : List Proc) (graphs : List Graph) → All (IsProcInRange p) procs → AllZip IsFoldedFlow procs graphs →
+pub few_locals : HoistedFlowsAreBounded → (p : Program) (procs : List Proc) (graphs : List Graph) → All (IsProcInRange p) procs → AllZip IsHoistedFlow procs graphs →
     All (λ g. local_count g < 2 ^ 32) graphs
 few_locals bounded p [] [] range flows = All-nil HasFewLocals
 few_locals bounded p [] (g ∷ graphs) range flows = absurd flows

@@ -7,15 +7,15 @@ use Rattle.cmm_program.specs.declared.procedure.Proc.{Proc}
 use Rattle.cmm_program.specs.declared.program.Program.{Program}
 use Rattle.cmm_program.specs.InRange.{IsProcInRange}
 use Rattle.cmm_graph.specs.declared.graph.Graph.{Graph}
-use Rattle.cmm_folded.specs.Flow.{IsFoldedFlow}
-use Rattle.cmm_folded.specs.Laws.{FoldedSetsAreOfProcedure}
+use Rattle.cmm_hoisted.specs.Flow.{IsHoistedFlow}
+use Rattle.cmm_hoisted.specs.Laws.{HoistedSetsAreOfProcedure}
 use Rattle.cmm_allocate.specs.declared.procedure.ProcedurePlaces.{ProcedurePlaces}
 use Rattle.cmm_allocate.specs.Places.{HavePlaces}
 use Rattle.cmm_link.specs.Linked.{KnowLive}
 use Rattle.cmm_compile.specs.inside.Laws.{PlacesKnowLive}
 
-module _ (sets : FoldedSetsAreOfProcedure) (p : Program) where
-  all_know : (procs : List Proc) (graphs : List Graph) (found : List ProcedurePlaces) → All (IsProcInRange p) procs → AllZip IsFoldedFlow procs graphs → HavePlaces procs graphs found → KnowLive procs found
+module _ (sets : HoistedSetsAreOfProcedure) (p : Program) where
+  all_know : (procs : List Proc) (graphs : List Graph) (found : List ProcedurePlaces) → All (IsProcInRange p) procs → AllZip IsHoistedFlow procs graphs → HavePlaces procs graphs found → KnowLive procs found
   all_know [] [] [] are flows places = tt
   all_know [] [] (k ∷ found) are flows places = absurd places
   all_know [] (g ∷ graphs) found are flows places = absurd flows
@@ -27,5 +27,5 @@ module _ (sets : FoldedSetsAreOfProcedure) (p : Program) where
         all_know procs graphs found (All-tail (IsProcInRange p) q procs are) flows.1 places.1,
       )
 
-pub places_know_live : FoldedSetsAreOfProcedure → PlacesKnowLive
+pub places_know_live : HoistedSetsAreOfProcedure → PlacesKnowLive
 places_know_live sets p graphs found are flows places = all_know sets p p.procs graphs found are.procedures flows places

@@ -2,7 +2,9 @@
 
 ghost use Rattle.std.specs.Prelude.{◌<◌, ◌^◌, length, IfOk, IfErr};
 ghost use Rattle.cmm_program.specs.InRange.{IsInRange};
+ghost use Rattle.std.specs.List.{AllZip};
 ghost use Rattle.cmm_front.specs.Programs.{IsProgramOf};
+ghost use Rattle.cmm_hoisted.specs.Flow.{AreFlowsWithin, IsHoistedFlow};
 ghost use Rattle.cmm_image.specs.Images.{IsImage};
 ghost use Rattle.cmm_compile.specs.Agreement.{Agree, AgreesWith};
 ghost use Rattle.cmm_front.specs.Refusing.{IsFaultOf};
@@ -15,19 +17,36 @@ use cmm_data::lay_out;
 use cmm_emit::lay_program;
 use cmm_flow::flows;
 use cmm_fold::fold_all;
+use cmm_folded::laws::flows_fold;
 use cmm_front::program_of;
+use cmm_graph::Graph;
+use cmm_hoist::hoist_all;
+use cmm_hoisted::laws::{flows_hoist, folded_flows_can_be_hoisted};
 use cmm_image::Image;
 use cmm_items::Items;
 use cmm_link::link;
 use cmm_live::liveness_of_all;
 use cmm_program::Program;
-use std::alloc::Global;
+use std::alloc::{AllocError, Global};
 
 /// An image keeps every rule of its format.
 fn know_rules(image: &Image)
     ensures { IsImage image.now }
 {
     image.parts();
+}
+
+/// The graphs of a program in range: the flows of its procedures, with their constants folded, and those of loops hoisted. An error is want of memory.
+fn graphs_of(alloc: Global, program: &Program) -> Result<Items<Graph>, AllocError>
+    requires { IsInRange program.now }
+    ensures within { IfOk result (AreFlowsWithin program.now) }
+    ensures flows { IfOk result (AllZip IsHoistedFlow program.now.procs) }
+{
+    flows_fold();
+    folded_flows_can_be_hoisted();
+    flows_hoist();
+    let unfolded = flows(alloc, program)?;
+    hoist_all(alloc, program, fold_all(unfolded))
 }
 
 /// A program with its image.
@@ -49,8 +68,7 @@ pub fn compile_program(alloc: Global, units: &[Items<u8>]) -> Result<Compiled, B
     passes_fit();
     let program = program_of(alloc, units)?;
     let data = lay_out(alloc, &program)?;
-    let unfolded = flows(alloc, &program)?;
-    let graphs = fold_all(unfolded);
+    let graphs = graphs_of(alloc, &program)?;
     let live = liveness_of_all(alloc, graphs.as_slice())?;
     let places = place_program(alloc, &program, graphs.as_slice(), live)?;
     let code = lay_program(alloc, &program, graphs.as_slice(), places.as_slice())?;

@@ -2,7 +2,7 @@
 
 ghost use Rattle.cmm_elaboration.specs.Laws.{ProceduresAscend};
 ghost use Rattle.cmm_data.specs.Laws.{InRangeCanBeLaidOut};
-ghost use Rattle.cmm_folded.specs.Laws.{FlowsFold, FoldedFlowsAreBounded};
+ghost use Rattle.cmm_hoisted.specs.Laws.{HoistedFlowsAreBounded};
 ghost use Rattle.cmm_link.specs.Laws.{PlacesHaveFrames};
 ghost use Rattle.cmm_compile.specs.inside.Laws.{ImagesAgreeWithUnits, PlacesKnowLive, ProgramsAreCovered, ProgramsAreShort};
 
@@ -11,8 +11,8 @@ ghost use Rattle.cmm_compile.specs.inside.Laws.{ImagesAgreeWithUnits, PlacesKnow
 fn programs_are_covered()
     ensures { ProgramsAreCovered }
 {
-    cmm_folded::laws::folded_flows_are_graphs();
-    cmm_folded::laws::folded_flows_are_covered();
+    cmm_hoisted::laws::hoisted_flows_are_graphs();
+    cmm_hoisted::laws::hoisted_flows_are_covered();
     cmm_allocate::laws::flows_can_be_placed();
     cmm_allocate::laws::entries_are_short();
     cmm_emit::laws::nodes_are_short();
@@ -24,9 +24,8 @@ fn programs_are_covered()
 fn programs_are_short()
     ensures { ProgramsAreShort }
 {
-    cmm_folded::laws::folded_flows_are_graphs();
-    cmm_folded::laws::folded_flows_are_covered();
-    cmm_folded::laws::folded_flows_are_short();
+    cmm_hoisted::laws::hoisted_flows_are_graphs();
+    cmm_hoisted::laws::hoisted_flows_are_covered();
     cmm_allocate::laws::flows_can_be_placed();
     cmm_allocate::laws::entries_are_short();
     cmm_emit::laws::graphs_are_short();
@@ -37,7 +36,7 @@ fn programs_are_short()
 fn places_know_live()
     ensures { PlacesKnowLive }
 {
-    cmm_folded::laws::folded_flows_keep_liveness();
+    cmm_hoisted::laws::hoisted_flows_keep_liveness();
 }
 
 /// An image that is made of a program agrees with it, whatever its client does.
@@ -59,8 +58,7 @@ fn images_agree_with_units()
 pub(crate) fn passes_fit()
     ensures ascend { ProceduresAscend }
     ensures data { InRangeCanBeLaidOut }
-    ensures folded { FlowsFold }
-    ensures bounded { FoldedFlowsAreBounded }
+    ensures bounded { HoistedFlowsAreBounded }
     ensures frames { PlacesHaveFrames }
     ensures covered { ProgramsAreCovered }
     ensures short { ProgramsAreShort }
@@ -69,8 +67,7 @@ pub(crate) fn passes_fit()
 {
     cmm_elaboration::laws::procedures_ascend();
     cmm_data::laws::programs_in_range();
-    cmm_folded::laws::flows_fold();
-    cmm_folded::laws::folded_flows_are_graphs();
+    cmm_hoisted::laws::hoisted_flows_are_graphs();
     cmm_link::laws::places_have_frames();
     programs_are_covered();
     programs_are_short();

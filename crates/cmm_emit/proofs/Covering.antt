@@ -28,6 +28,7 @@ use Rattle.cmm_calls.specs.Calls.{exits_cost}
 use Rattle.cmm_select.specs.Memory.{accesses}
 use Rattle.cmm_select.specs.Operators.{shifts_of}
 use Rattle.cmm_select.specs.Switches.{ranges_in}
+use Rattle.cmm_hoisted.specs.Flow.{entry_tokens}
 use Rattle.cmm_emit.proofs.Bodies.{few_for}
 use Rattle.cmm_emit.proofs.Summing.{one_spares}
 use Rattle.cmm_emit.specs.declared.context.Context.{Context}
@@ -228,12 +229,13 @@ nodes_are_short p y g whole node small is covered =
 
 pub graphs_are_short : GraphsAreShort
 graphs_are_short p y g whole small short =
-    let entry : Node = record { tokens = whole; kind = Entry short.formals short.next } in
-    let enough : IsTrue (covers whole entry) = list_all_get (covers whole) g.nodes g.first.number entry short.covered short.entry in
-    let spares = entry_spares p y g whole small whole short.formals short.next short.some (grind (arith, nat_tests, enough)) in
+    let least = entry_tokens g in
+    let entry : Node = record { tokens = least; kind = Entry short.formals short.next } in
+    let enough : IsTrue (covers least entry) = list_all_get (covers least) g.nodes g.first.number entry short.covered short.entry in
+    let spares = entry_spares p y g least small least short.formals short.next short.some (grind (arith, nat_tests, enough)) in
     let all =
     one_spares (λ node. cost_of p y node.kind) (λ node. node.tokens) 65 g.nodes g.first.number entry short.entry spares
     (λ k node is.
-    nodes_are_short p y g whole node small (list_all_get (is_node g) g.nodes k node short.nodes is) (list_all_get (covers whole) g.nodes k node short.covered is)) in
+    nodes_are_short p y g least node small (list_all_get (is_node g) g.nodes k node short.nodes is) (list_all_get (covers least) g.nodes k node short.covered is)) in
     let tokens = short.tokens in
     omega (arith, all, tokens)

@@ -18,8 +18,8 @@ use Rattle.cmm_emit_laws.specs.Laying.{FramesCanBeMade, ProceduresAreLaid}
 use Rattle.cmm_emit_laws.specs.Placing.{FinishedCodeStands}
 use Rattle.cmm_emit_laws.specs.Naming.{GraphsAreNamed}
 use Rattle.cmm_data.specs.Laws.{InRangeCanBeLaidOut, LabelsLieInData, LiesInData}
-use Rattle.cmm_folded.specs.Flow.{IsFoldedFlow}
-use Rattle.cmm_folded.specs.Laws.{FoldedFlowsAreGraphs, FoldedFlowsHaveSites, FoldedFlowsPassFew, FoldedFlowsWaitAtEach, FoldedFlowsWaitOnce, FoldedFlowsYieldThere}
+use Rattle.cmm_hoisted.specs.Flow.{IsHoistedFlow}
+use Rattle.cmm_hoisted.specs.Laws.{HoistedFlowsAreGraphs, HoistedFlowsHaveSites, HoistedFlowsPassFew, HoistedFlowsWaitAtEach, HoistedFlowsWaitOnce, HoistedFlowsYieldThere}
 use Rattle.cmm_unit_code.specs.Joined.{CanBeJoined, IsJoined, IsTextOf, IsWhole, joined_code, landing_addresses, procedure_addresses, reference_value, site_addresses}
 use Rattle.cmm_unit_code.specs.Texts.{IsText, address_in}
 use Rattle.cmm_unit_code.specs.declared.text.Text.{Text}
@@ -30,7 +30,7 @@ use Rattle.cmm_allocate.specs.Laws.{RowsHaveFrames}
 use Rattle.cmm_allocate.specs.Places.{HavePlaces}
 use Rattle.cmm_emit.specs.Naming.{label_at}
 use Rattle.cmm_emit.specs.declared.context.Context.{Context}
-use Rattle.cmm_emit.proofs.Belonging.{length-entry_labels, there_at}
+use Rattle.cmm_emit.proofs.Belonging.{there_at}
 use Rattle.cmm_emit.proofs.Coding.{finished, here, lands_there, returns_there}
 use Rattle.cmm_emit.proofs.JoinedSites.{front_sites, map_there, moved, site_there, skip_sites}
 use Rattle.cmm_emit.specs.Finishing.{places_at as label_places}
@@ -45,7 +45,7 @@ use Rattle.cmm_emit.specs.Starts.{IsStart}
 use Rattle.cmm_emit.specs.Outlines.{own}
 use Rattle.cmm_emit.specs.Premises.{AreCovered, AreShort}
 use Rattle.cmm_emit.specs.Texts.{IsCodeOfProgram}
-use Rattle.cmm_emit.proofs.Referring.{have_references}
+use Rattle.cmm_emit.proofs.Referring.{have_references, procedures_counted}
 use Rattle.cmm_emit.specs.Units.{AreUnits, IsUnit, NamesWhatItUses}
 use Rattle.cmm_emit.specs.declared.start.Start.{Start}
 
@@ -103,18 +103,12 @@ module _ (p : Program) (graphs : List Graph) (found : List ProcedurePlaces)
           length-append (filled (value u) at u.fixes u.code) (bytes_from (at + length u.code) us),
         )
 
-    procedures_counted : length u.procedures ≡ length is.outline.contexts
-    procedures_counted =
-        let can = can_of first count u is in
-        let graph_count = can.graph_count in
-        let contexts = is.is_outline.contexts.count in
-        ap (λ (ns : List ℕ). length ns) is.finished.procedures
-        ∙ (length-map is.outline.entries (λ (l : Label). slice_index is.finished.places l.number)
-        ∙ (ap (λ (ls : List Label). length ls) is.is_outline.entries ∙ length-entry_labels is.outline.contexts (own is.outline graphs) (omega (arith, graph_count, contexts))))
+    entries_counted : length u.procedures ≡ length is.outline.contexts
+    entries_counted = procedures_counted p graphs found can_of first count u is
 
     entry : (k : ℕ) → k < length is.outline.contexts → get_or t.procedures (is.outline.first + k) 0 ≡ slice_index is.finished.places (label_at is.outline.entries k).number + at
     entry k less =
-        let inside : k < length u.procedures = omega (arith, less, procedures_counted) in
+        let inside : k < length u.procedures = omega (arith, less, entries_counted) in
         let moved = λ (offset : ℕ). at + offset in
         let number : is.outline.first + k ≡ length behind.earlier + k = let count_ = behind.count in let first_ = is.first_is in omega (arith, count_, first_) in
         let here = length-map u.procedures moved in
@@ -196,7 +190,7 @@ module _ (p : Program) (graphs : List Graph) (found : List ProcedurePlaces)
       count =
           let before = behind.count in
           let contexts = is.count_is in
-          omega (arith, before, contexts, procedures_counted, length-append behind.earlier (map (λ offset. at + offset) u.procedures), length-map u.procedures (λ offset. at + offset));
+          omega (arith, before, contexts, entries_counted, length-append behind.earlier (map (λ offset. at + offset) u.procedures), length-map u.procedures (λ offset. at + offset));
       earlier_sites = behind.earlier_sites ++ moved at u.sites;
       sites = behind.sites ∙ sym (append_assoc behind.earlier_sites (moved at u.sites) (site_addresses (at + length u.code) us));
       sites_count =
@@ -342,8 +336,8 @@ module _ (p : Program) (graphs : List Graph) (found : List ProcedurePlaces)
 
 -- ---- a located program, with the codes of its units
 
-module _ (p : Program) (graphs : List Graph) (found : List ProcedurePlaces) (range : IsInRange p) (flows : AllZip IsFoldedFlow p.procs graphs)
-    (places : HavePlaces p.procs graphs found) (passes : FoldedFlowsPassFew) (yields : FoldedFlowsYieldThere) (answers : FoldedFlowsAreGraphs) (named : GraphsAreNamed) (made : FramesCanBeMade) (waits : FoldedFlowsWaitOnce) (each : FoldedFlowsWaitAtEach) (have : FoldedFlowsHaveSites)
+module _ (p : Program) (graphs : List Graph) (found : List ProcedurePlaces) (range : IsInRange p) (flows : AllZip IsHoistedFlow p.procs graphs)
+    (places : HavePlaces p.procs graphs found) (passes : HoistedFlowsPassFew) (yields : HoistedFlowsYieldThere) (answers : HoistedFlowsAreGraphs) (named : GraphsAreNamed) (made : FramesCanBeMade) (waits : HoistedFlowsWaitOnce) (each : HoistedFlowsWaitAtEach) (have : HoistedFlowsHaveSites)
     (short : AreShort p.procs graphs found) (start : Start) (is_start : IsStart p start)
     (codes : List UnitCode) (units : (us : List UnitCode) × (codes ≡ start.code ∷ us) × (length us ≤ 256) × AreUnits p graphs found 0 (length p.procs) us) where
   abbrev pub code : ProgramCode

@@ -16,8 +16,8 @@ use Rattle.cmm_graph.specs.declared.graph.Graph.{Graph}
 use Rattle.cmm_graph.specs.Counterpart.{IsGraphOf, parameter_targets, taken_at}
 use Rattle.cmm_emit_laws.specs.Laying.{FramesCanBeMade}
 use Rattle.cmm_emit_laws.specs.Naming.{GraphsAreNamed}
-use Rattle.cmm_folded.specs.Flow.{IsFoldedFlow}
-use Rattle.cmm_folded.specs.Laws.{FoldedFlowsAreGraphs, FoldedFlowsPassFew, FoldedFlowsWaitOnce}
+use Rattle.cmm_hoisted.specs.Flow.{IsHoistedFlow}
+use Rattle.cmm_hoisted.specs.Laws.{HoistedFlowsAreGraphs, HoistedFlowsPassFew, HoistedFlowsWaitOnce}
 use Rattle.cmm_allocate.specs.declared.procedure.ProcedurePlaces.{ProcedurePlaces}
 use Rattle.cmm_allocate.specs.Places.{HasPlaces, HavePlaces}
 use Rattle.cmm_emit.specs.declared.context.Context.{Context}
@@ -87,10 +87,10 @@ share_tokens first count procs =
 
 -- ---- a located program
 
-module _ (p : Program) (graphs : List Graph) (found : List ProcedurePlaces) (range : IsInRange p) (flows : AllZip IsFoldedFlow p.procs graphs)
-    (places : HavePlaces p.procs graphs found) (passes : FoldedFlowsPassFew) (answers : FoldedFlowsAreGraphs) (named : GraphsAreNamed) where
+module _ (p : Program) (graphs : List Graph) (found : List ProcedurePlaces) (range : IsInRange p) (flows : AllZip IsHoistedFlow p.procs graphs)
+    (places : HavePlaces p.procs graphs found) (passes : HoistedFlowsPassFew) (answers : HoistedFlowsAreGraphs) (named : GraphsAreNamed) where
   pub graphs_counted : length graphs ≡ length p.procs
-  graphs_counted = zip_counted IsFoldedFlow p.procs graphs flows
+  graphs_counted = zip_counted IsHoistedFlow p.procs graphs flows
 
   pub found_counted : length found ≡ length p.procs
   found_counted = places_counted p.procs graphs found graphs_counted places
@@ -98,8 +98,8 @@ module _ (p : Program) (graphs : List Graph) (found : List ProcedurePlaces) (ran
   pub range_of : (n : ℕ) (q : Proc) → slice_get p.procs n ≡ Some q → IsProcInRange p q
   range_of n q is = all_get (IsProcInRange p) p.procs n q range.procedures is
 
-  pub flow_of : (n : ℕ) (q : Proc) (g : Graph) → slice_get p.procs n ≡ Some q → slice_get graphs n ≡ Some g → IsFoldedFlow q g
-  flow_of n q g is also = zip_at IsFoldedFlow p.procs graphs n q g flows is also
+  pub flow_of : (n : ℕ) (q : Proc) (g : Graph) → slice_get p.procs n ≡ Some q → slice_get graphs n ≡ Some g → IsHoistedFlow q g
+  flow_of n q g is also = zip_at IsHoistedFlow p.procs graphs n q g flows is also
 
   pub graph_of : (n : ℕ) (q : Proc) (g : Graph) → slice_get p.procs n ≡ Some q → slice_get graphs n ≡ Some g → IsGraphOf p q g
   graph_of n q g is also = answers p q g (range_of n q is) (flow_of n q g is also)
@@ -169,7 +169,7 @@ module _ (p : Program) (graphs : List Graph) (found : List ProcedurePlaces) (ran
     entries_counted =
         ap (λ (ls : List Label). length ls) outline.entries ∙ length-entry_labels o.contexts (own o graphs) (share_counted o.first count graphs beside)
 
-    pub can_all_be_laid : FramesCanBeMade → FoldedFlowsWaitOnce → AreShort p.procs graphs found → CanAllBeLaidIn p graphs found o
+    pub can_all_be_laid : FramesCanBeMade → HoistedFlowsWaitOnce → AreShort p.procs graphs found → CanAllBeLaidIn p graphs found o
     can_all_be_laid made waits short = record {
       graph_count = share_counted o.first count graphs beside ∙ sym (share_counted o.first count p.procs within);
       found_count = share_counted o.first count found (omega (arith, within, found_counted)) ∙ sym (share_counted o.first count p.procs within);

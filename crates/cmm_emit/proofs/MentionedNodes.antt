@@ -51,6 +51,14 @@ module _ (g : Graph) where
   abbrev Names : (Reference → Bool) → Type 0
   Names so = (r : Reference) → so r ≡ true → graph_names r g ≡ true
 
+  -- all of a list are so, whose names the graph names, where each of it is
+  all_so : {A : Type 0} (names : Reference → A → Bool) (so : A → Bool) → ((x : A) → Names (λ r. names r x) → so x ≡ true) → (xs : List A) →
+      Names (λ r. list_any (names r) xs) → list_all so xs ≡ true
+  all_so names so each [] named = refl
+  all_so names so each (x ∷ xs) named =
+      and_from (so x) (list_all so xs) (each x (λ r is. named r (or_left (names r x) (list_any (names r) xs) is)))
+      (all_so names so each xs (λ r is. named r (or_right (names r x) (list_any (names r) xs) is)))
+
   operand_mentioned : (o : Operand) → Names (λ r. operand_names r o) → is_mentioned g o ≡ true
   operand_mentioned (operand.Constant (constant.Number n width)) names = refl
   operand_mentioned (operand.Constant (constant.Code k plus)) names = names (Procedure k) (same k)
@@ -60,22 +68,14 @@ module _ (g : Graph) where
   operand_mentioned (operand.Continuation k) names = refl
 
   all_mentioned : (os : List Operand) → Names (λ r. list_any (operand_names r) os) → list_all (is_mentioned g) os ≡ true
-  all_mentioned [] names = refl
-  all_mentioned (o ∷ os) names =
-      and_from (is_mentioned g o) (list_all (is_mentioned g) os)
-      (operand_mentioned o (λ r is. names r (or_left (operand_names r o) (list_any (operand_names r) os) is)))
-      (all_mentioned os (λ r is. names r (or_right (operand_names r o) (list_any (operand_names r) os) is)))
+  all_mentioned = all_so operand_names (is_mentioned g) operand_mentioned
 
   target_mentioned : (t : Target) → Names (λ r. target_names r t) → takes_mentioned g t ≡ true
   target_mentioned (target.Variable k width) names = refl
   target_mentioned (target.Register k width) names = names (Register k) (same k)
 
   all_take : (ts : List Target) → Names (λ r. list_any (target_names r) ts) → list_all (takes_mentioned g) ts ≡ true
-  all_take [] names = refl
-  all_take (t ∷ ts) names =
-      and_from (takes_mentioned g t) (list_all (takes_mentioned g) ts)
-      (target_mentioned t (λ r is. names r (or_left (target_names r t) (list_any (target_names r) ts) is)))
-      (all_take ts (λ r is. names r (or_right (target_names r t) (list_any (target_names r) ts) is)))
+  all_take = all_so target_names (takes_mentioned g) target_mentioned
 
   read_mentioned : (value : Rvalue) → Names (λ r. read_names r value) → value_mentioned g value ≡ true
   read_mentioned (rvalue.Copy o) names = refl

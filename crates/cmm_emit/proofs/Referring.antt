@@ -16,15 +16,19 @@ use Rattle.cmm_emit.specs.Units.{AreUnits, HaveReferences, IsUnit}
 module _ (p : Program) (graphs : List Graph) (found : List ProcedurePlaces)
     (can_of : (first count : ℕ) (u : UnitCode) (is : IsUnit p graphs found first count u) → CanAllBeLaidIn p graphs found is.outline) where
   module _ (first count : ℕ) (u : UnitCode) (is : IsUnit p graphs found first count u) where
-    counted : length u.procedures ≡ count
-    counted =
+    -- it has an entry for each of its procedures
+    pub procedures_counted : length u.procedures ≡ length is.outline.contexts
+    procedures_counted =
         let can = can_of first count u is in
         let graph_count = can.graph_count in
         let contexts = is.is_outline.contexts.count in
         ap (λ (ns : List ℕ). length ns) is.finished.procedures
         ∙ (length-map is.outline.entries (λ (l : Label). slice_index is.finished.places l.number)
         ∙ (ap (λ (ls : List Label). length ls) is.is_outline.entries
-        ∙ (length-entry_labels is.outline.contexts (own is.outline graphs) (omega (arith, graph_count, contexts)) ∙ is.count_is)))
+        ∙ length-entry_labels is.outline.contexts (own is.outline graphs) (omega (arith, graph_count, contexts))))
+
+    counted : length u.procedures ≡ count
+    counted = procedures_counted ∙ is.count_is
 
     listed : u.references ≡ references_of p (share first count graphs) first count
     listed =

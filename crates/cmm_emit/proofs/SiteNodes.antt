@@ -17,8 +17,8 @@ use Rattle.cmm_graph.specs.declared.node.NodeKind.TheVariants.{Assign, Branch, C
 use Rattle.cmm_graph.specs.declared.number.ContinuationId.{ContinuationId}
 use Rattle.cmm_graph.specs.declared.number.SiteId.{SiteId}
 use Rattle.cmm_live.specs.Sites.{site_of}
-use Rattle.cmm_folded.specs.Flow.{IsFoldedFlow}
-use Rattle.cmm_folded.specs.Laws.{FoldedFlowsHaveSites, FoldedFlowsWaitAtEach}
+use Rattle.cmm_hoisted.specs.Flow.{IsHoistedFlow}
+use Rattle.cmm_hoisted.specs.Laws.{HoistedFlowsHaveSites, HoistedFlowsWaitAtEach}
 use Rattle.cmm_emit.specs.declared.context.Context.{Context}
 use Rattle.cmm_emit.specs.Naming.{label_at}
 use Rattle.cmm_emit.specs.Standing.{SiteStands}
@@ -60,7 +60,7 @@ module _ (q : Proc) (g : Graph) (n : ℕ) (site : Site) (is : slice_get q.sites 
   stands_at (Goto next) waits has c parts stands = absurd (cc)
   stands_at Stop waits has c parts stands = absurd (cc)
 
-pub waited : (p : Program) (q : Proc) (g : Graph) → FoldedFlowsWaitAtEach → FoldedFlowsHaveSites → IsProcInRange p q → IsFoldedFlow q g → (n : ℕ) (site : Site) →
+pub waited : (p : Program) (q : Proc) (g : Graph) → HoistedFlowsWaitAtEach → HoistedFlowsHaveSites → IsProcInRange p q → IsHoistedFlow q g → (n : ℕ) (site : Site) →
     slice_get q.sites n ≡ Some site → IsWaited g n site
 waited p q g each have range flow n site is =
     let at = each p q g n range flow (slice_get_within q.sites n site is) in

@@ -18,6 +18,7 @@ pub struct Mentions {
     pub registers: BitSet,
     /// Data labels.
     pub labels: BitSet,
+    /// Procedures.
     pub procedures: BitSet,
 }
 

@@ -6,7 +6,7 @@ ghost use Rattle.std.specs.List.Sorted.{IsNonDecreasingBy};
 ghost use Rattle.cmm_program.specs.Bounds.{code_bound};
 ghost use Rattle.cmm_program.specs.InRange.{IsInRange};
 ghost use Rattle.cmm_program.specs.Limits.{token_limit};
-ghost use Rattle.cmm_folded.specs.Flow.{IsFoldedFlow};
+ghost use Rattle.cmm_hoisted.specs.Flow.{IsHoistedFlow};
 ghost use Rattle.cmm_unit_code.specs.Joined.{CanBeJoined, IsTextOf};
 ghost use Rattle.cmm_unit_code.specs.Texts.{IsText};
 ghost use Rattle.cmm_unit_code.specs.declared.text.Text.{Text};
@@ -33,7 +33,7 @@ pub fn lay_program(
 ) -> Result<ProgramCode, AllocError>
     requires range { IsInRange program.now }
     requires ascending { IsNonDecreasingBy (λ q. q.unit) program.now.procs }
-    requires flows { AllZip IsFoldedFlow program.now.procs graphs.now }
+    requires flows { AllZip IsHoistedFlow program.now.procs graphs.now }
     requires places { HavePlaces program.now.procs graphs.now places.now }
     requires covered { AreCovered graphs.now places.now }
     requires short { AreShort program.now.procs graphs.now places.now }
@@ -46,9 +46,9 @@ pub fn lay_program(
 {
     cmm_data::laws::programs_in_range();
     cmm_data::laws::labels_in_data();
-    cmm_folded::laws::folded_flows_are_graphs();
-    cmm_folded::laws::folded_flows_pass_few();
-    cmm_folded::laws::folded_flows_wait_once();
+    cmm_hoisted::laws::hoisted_flows_are_graphs();
+    cmm_hoisted::laws::hoisted_flows_pass_few();
+    cmm_hoisted::laws::hoisted_flows_wait_once();
     cmm_allocate::laws::rows_are_placed();
     cmm_emit_laws::laws::graphs_are_named();
     cmm_emit_laws::laws::frames_are_laid();

@@ -17,8 +17,11 @@ use std::alloc::{AllocError, Global};
 /// What code names by symbols.
 #[derive(Clone, Copy)]
 pub enum Sort {
+    /// Global registers.
     Register,
+    /// Data labels.
     Label,
+    /// Procedures.
     Procedure,
 }
 

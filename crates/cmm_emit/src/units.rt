@@ -5,7 +5,7 @@ ghost use Rattle.std.specs.List.{AllZip};
 ghost use Rattle.std.specs.List.Sorted.{IsNonDecreasingBy};
 ghost use Rattle.cmm_program.specs.InRange.{IsInRange};
 ghost use Rattle.cmm_program.specs.Limits.{token_limit};
-ghost use Rattle.cmm_folded.specs.Flow.{IsFoldedFlow};
+ghost use Rattle.cmm_hoisted.specs.Flow.{IsHoistedFlow};
 ghost use Rattle.cmm_unit_code.specs.declared.unit_code.UnitCode.{UnitCode as CodeOfUnit};
 ghost use Rattle.cmm_allocate.specs.Places.{HavePlaces};
 ghost use Rattle.cmm_emit.specs.Premises.{AreShort};
@@ -32,16 +32,16 @@ fn unit_code(
     count: usize,
 ) -> Result<UnitCode, AllocError>
     requires range { IsInRange program.now }
-    requires flows { AllZip IsFoldedFlow program.now.procs graphs.now }
+    requires flows { AllZip IsHoistedFlow program.now.procs graphs.now }
     requires places { HavePlaces program.now.procs graphs.now places.now }
     requires short { AreShort program.now.procs graphs.now places.now }
     requires labels { length program.now.labels ≤ token_limit }
     requires within { first + count ≤ length program.now.procs }
     ensures { IfOk result (IsUnit program.now graphs.now places.now first count) }
 {
-    cmm_folded::laws::folded_flows_are_graphs();
-    cmm_folded::laws::folded_flows_pass_few();
-    cmm_folded::laws::folded_flows_wait_once();
+    cmm_hoisted::laws::hoisted_flows_are_graphs();
+    cmm_hoisted::laws::hoisted_flows_pass_few();
+    cmm_hoisted::laws::hoisted_flows_wait_once();
     cmm_emit_laws::laws::graphs_are_named();
     cmm_emit_laws::laws::frames_are_laid();
     let mut asm = Asm::new(alloc);
@@ -75,7 +75,7 @@ pub fn unit_codes(
 ) -> Result<Items<UnitCode>, AllocError>
     requires range { IsInRange program.now }
     requires ascending { IsNonDecreasingBy (λ q. q.unit) program.now.procs }
-    requires flows { AllZip IsFoldedFlow program.now.procs graphs.now }
+    requires flows { AllZip IsHoistedFlow program.now.procs graphs.now }
     requires places { HavePlaces program.now.procs graphs.now places.now }
     requires short { AreShort program.now.procs graphs.now places.now }
     requires labels { length program.now.labels ≤ token_limit }

@@ -2,10 +2,10 @@
 use Rattle.std.proofs.Common.{[], ◌∷◌}
 use Rattle.cmm_graph.specs.Counterpart.{HasSite}
 use Rattle.cmm_flow.specs.Laws.{AnswersAreBounded, AnswersAreCovered, AnswersAreGraphs, AnswersAreShort, AnswersHaveSites, AnswersPassFew, AnswersWaitAtEach, AnswersWaitOnce, AnswersYieldThere}
-use Rattle.cmm_flow.specs.Liveness.{AnswersAreInRange, AreSetsAtSite, SetsAreOfProcedure}
-use Rattle.cmm_folded.specs.Laws.{FlowsFold, FoldedFlowsAreBounded, FoldedFlowsAreCovered, FoldedFlowsAreGraphs, FoldedFlowsAreShort, FoldedFlowsHaveEntries, FoldedFlowsHaveSites, FoldedFlowsPassFew, FoldedFlowsWaitAtEach, FoldedFlowsWaitOnce, FoldedFlowsYieldThere, FoldedSetsAreOfProcedure}
+use Rattle.cmm_flow.specs.Liveness.{AnswersAreInRange, AreSetsAtSite, SetsAreOfProcedure, SitesKeepLiveness}
+use Rattle.cmm_folded.specs.Laws.{FlowsFold, FoldedFlowsAreBounded, FoldedFlowsAreCovered, FoldedFlowsAreGraphs, FoldedFlowsAreShort, FoldedFlowsHaveEntries, FoldedFlowsHaveSites, FoldedFlowsKeepSites, FoldedFlowsPassFew, FoldedFlowsWaitAtEach, FoldedFlowsWaitOnce, FoldedFlowsYieldThere, FoldedSetsAreOfProcedure}
 use Rattle.cmm_folded.proofs.Counts.{bounded_after, covered_after, entry_after, few_after, once_after, short_after, waited_after, yields_after}
-use Rattle.cmm_folded.proofs.Liveness.{folded_graphs_keep_liveness}
+use Rattle.cmm_folded.proofs.Liveness.{folded_graphs_keep_liveness, kept_after}
 use Rattle.cmm_folded.proofs.Nodes.{facts_through}
 use Rattle.cmm_folded.proofs.Ranges.{graph_after, has_site}
 
@@ -49,6 +49,10 @@ folded_flows_pass_few law p q g range is = few_after q is.flow g is.stands (law 
 
 pub folded_flows_yield_there : AnswersYieldThere → FoldedFlowsYieldThere
 folded_flows_yield_there law p q g range is = yields_after q is.flow g is.stands (law p q is.flow range is.is_flow)
+
+pub folded_flows_keep_sites : AnswersAreInRange → AnswersWaitOnce → SitesKeepLiveness → FoldedFlowsKeepSites
+folded_flows_keep_sites in_range once law p q g range is site v less =
+    kept_after is.flow g is.stands q site v (law p q is.flow (in_range p q is.flow range is.is_flow) (once p q is.flow range is.is_flow) site v less)
 
 -- a variable has the same number in both graphs, so the sets say the same of it
 pub folded_sets_are_of_procedure : AnswersAreInRange → AnswersWaitOnce → SetsAreOfProcedure → FoldedSetsAreOfProcedure

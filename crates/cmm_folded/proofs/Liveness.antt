@@ -1,8 +1,9 @@
 -- The same locals are live in a graph and in one that stands for it.
-use Rattle.std.proofs.Common.{◌≡◌, ◌↔◌, ◌+◌, refl, sym, ◌∙◌, ap, subst, arith, Bool, true, List, length}
+use Rattle.std.proofs.Common.{◌≡◌, ◌↔◌, ◌+◌, ℕ, refl, sym, ◌∙◌, ap, subst, arith, Bool, true, List, length}
 use Rattle.std.proofs.lemmas.Slice.Zip.{AllZip-long}
 use Rattle.std.specs.Prelude.{nat_lt, Contains, IsTrue, Some}
 use Rattle.cmm_bitset.specs.Sets.{has}
+use Rattle.cmm_program.specs.declared.procedure.Proc.{Proc}
 use Rattle.cmm_graph.specs.declared.graph.Graph.{Graph}
 use Rattle.cmm_graph.specs.declared.node.Node.{Node}
 use Rattle.cmm_graph.specs.declared.node.NodeKind.{NodeKind}
@@ -20,6 +21,7 @@ use Rattle.cmm_live.specs.declared.live_sets.LiveSets.{LiveSets}
 use Rattle.cmm_live.specs.Exact.{AreBefore, AreLiveSets, AreOfSites, IsSetOf, has_local, set_at}
 use Rattle.cmm_live.specs.Locals.{local_count, local_number}
 use Rattle.cmm_live.specs.Sites.{IsLiveAt, IsLiveOnCut, cut_nodes, site_of}
+use Rattle.cmm_flow.specs.Liveness.{IsKeptAtSite, site_id, variable}
 use Rattle.cmm_folded.specs.Laws.{FoldedGraphsKeepLiveness}
 use Rattle.cmm_folded.proofs.Nodes.{kind_same, new_node, old_node, reads_same}
 
@@ -46,7 +48,7 @@ record HaveSamePaths (g h : Graph) : Type 0 where
 landings_same : (g h : Graph) → h.continuations ≡ g.continuations → (ks : List ContinuationId) → landings h ks ≡ landings g ks
 landings_same g h same ks = ap (λ ns. landings record g { continuations = ns } ks) same
 
-successors_same : (g h : Graph) → h.continuations ≡ g.continuations → (kind : NodeKind) → successors h kind ≡ successors g kind
+pub successors_same : (g h : Graph) → h.continuations ≡ g.continuations → (kind : NodeKind) → successors h kind ≡ successors g kind
 successors_same g h same kind = by kind
   where
     with_continuations : (kind : NodeKind) (k : Graph) → successors k kind ≡ successors record g { continuations = k.continuations } kind
@@ -68,7 +70,7 @@ successors_same g h same kind = by kind
     by : (kind : NodeKind) → successors h kind ≡ successors g kind
     by kind = with_continuations kind h ∙ (ap (λ ns. successors record g { continuations = ns } kind) same ∙ sym (with_continuations kind g))
 
-cut_nodes_same : (g h : Graph) → h.continuations ≡ g.continuations → (kind : NodeKind) → cut_nodes h kind ≡ cut_nodes g kind
+pub cut_nodes_same : (g h : Graph) → h.continuations ≡ g.continuations → (kind : NodeKind) → cut_nodes h kind ≡ cut_nodes g kind
 cut_nodes_same g h same (Call site callee arguments exits) = landings_same g h same exits.cuts
 cut_nodes_same g h same (Yield site values exits) = landings_same g h same exits.cuts
 cut_nodes_same g h same kind = refl
@@ -136,6 +138,22 @@ still_on_cut g h paths l s live =
       next = live.next;
       leads = subst (λ ns. Contains ns live.next) (sym o.cuts) live.leads;
       live = still_live g h paths l live.next live.live;
+    }
+
+-- what is live at a site of a procedure by the paths of a graph is so by those of one that stands for it
+pub kept_after : (old new : Graph) → GraphStandsFor old new → (q : Proc) (site v : ℕ) → IsKeptAtSite q old site v → IsKeptAtSite q new site v
+kept_after old new stands q site v kept =
+    let after = paths_after old new stands in
+    let before = paths_before old new stands in
+    record {
+      live = (
+        λ live. still_at old new after (variable v) (site_id site) (kept.live.0 live),
+        λ live. kept.live.1 (still_at new old before (variable v) (site_id site) live),
+      );
+      live_on_cut = (
+        λ live. still_on_cut old new after (variable v) (site_id site) (kept.live_on_cut.0 live),
+        λ live. kept.live_on_cut.1 (still_on_cut new old before (variable v) (site_id site) live),
+      );
     }
 
 -- ---- the sets

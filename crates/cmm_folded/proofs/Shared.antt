@@ -1,2 +1,3 @@
--- What proofs of other crates may cite: that a folded flow begins at its Entry.
+-- What proofs of other crates may cite: that a folded flow begins at its Entry, and that where a node leads is by the landings of its graph alone.
 pub use Rattle.cmm_folded.proofs.Flows.{folded_flows_have_entries}
+pub use Rattle.cmm_folded.proofs.Liveness.{cut_nodes_same, successors_same}

@@ -26,7 +26,7 @@ use Rattle.cmm_flow.specs.Code.{IsNode}
 use Rattle.cmm_flow.specs.Few.{PassFew, YieldThere}
 use Rattle.cmm_flow.specs.Flow.{AreCovered, HasTokens, IsBounded, IsFlow, IsShort}
 use Rattle.cmm_flow.specs.Laws.{AreCosts}
-use Rattle.cmm_flow.specs.Liveness.{AreSetsAtSite}
+use Rattle.cmm_flow.specs.Liveness.{AreSetsAtSite, IsKeptAtSite}
 use Rattle.cmm_flow.specs.Relation.{longest}
 use Rattle.cmm_flow.specs.Waiting.{IsWaitedAt, WaitOnce}
 use Rattle.cmm_folded.specs.Flow.{IsFoldedFlow}
@@ -100,6 +100,10 @@ FoldedFlowsPassFew = (p : Program) (q : Proc) (g : Graph) → IsProcInRange p q 
 -- and those that yield do so with as many values as their sites say.
 abbrev pub FoldedFlowsYieldThere : Type 0
 FoldedFlowsYieldThere = (p : Program) (q : Proc) (g : Graph) → IsProcInRange p q → IsFoldedFlow q g → YieldThere q g
+
+-- The variables of a procedure that are live at a site, and on its cut exits, are those that are live there by the paths of its folded flow.
+abbrev pub FoldedFlowsKeepSites : Type 0
+FoldedFlowsKeepSites = (p : Program) (q : Proc) (g : Graph) → IsProcInRange p q → IsFoldedFlow q g → (site v : ℕ) → site < length q.sites → IsKeptAtSite q g site v
 
 -- The sets that are computed for it have just the variables of the procedure that are live at a site, and on its cut exits.
 abbrev pub FoldedSetsAreOfProcedure : Type 0

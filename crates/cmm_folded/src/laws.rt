@@ -1,6 +1,6 @@
 //! What folded graphs, and folded flows of procedures, guarantee. Each law is the contract of a function that does nothing.
 
-ghost use Rattle.cmm_folded.specs.Laws.{FlowsFold, FoldedFlowsAreBounded, FoldedFlowsAreCovered, FoldedFlowsAreGraphs, FoldedFlowsAreShort, FoldedFlowsFollow, FoldedFlowsHaveEntries, FoldedFlowsHaveSites, FoldedFlowsHaveTokens, FoldedFlowsPassFew, FoldedFlowsWaitAtEach, FoldedFlowsWaitOnce, FoldedFlowsYieldThere, FoldedGraphsDoTheSame, FoldedGraphsKeepLiveness, FoldedSetsAreOfProcedure};
+ghost use Rattle.cmm_folded.specs.Laws.{FlowsFold, FoldedFlowsAreBounded, FoldedFlowsAreCovered, FoldedFlowsAreGraphs, FoldedFlowsAreShort, FoldedFlowsFollow, FoldedFlowsHaveEntries, FoldedFlowsHaveSites, FoldedFlowsHaveTokens, FoldedFlowsKeepSites, FoldedFlowsPassFew, FoldedFlowsWaitAtEach, FoldedFlowsWaitOnce, FoldedFlowsYieldThere, FoldedGraphsDoTheSame, FoldedGraphsKeepLiveness, FoldedSetsAreOfProcedure};
 
 use cmm_flow::laws::{
     answers_are_covered, answers_are_flows, answers_are_graphs, answers_are_short,
@@ -63,6 +63,15 @@ pub fn folded_flows_pass_few()
     ensures yields { FoldedFlowsYieldThere }
 {
     answers_pass_few();
+}
+
+/// The variables of a procedure that are live at a site, and on its cut exits, are those that are live there by the paths of its folded flow.
+pub fn folded_flows_keep_sites()
+    ensures { FoldedFlowsKeepSites }
+{
+    answers_keep_liveness();
+    answers_wait_once();
+    sites_keep_liveness();
 }
 
 /// The variables of a procedure that are live at a site, and on its cut exits, are those that the live sets of its folded flow have there.

@@ -1,8 +1,8 @@
 -- Registers by colours, and the slots of the locals that have none.
-use Rattle.std.specs.Prelude.{◌≡◌, ℕ, ◌+◌, ◌*◌, ◌<◌, Bool, true, false, List, length, map, slice_index_or, Option, Some, None}
+use Rattle.std.specs.Prelude.{◌≡◌, ◌⊎◌, ℕ, ◌+◌, ◌*◌, ◌<◌, ◌≤◌, ◌&&◌, Bool, true, false, List, length, map, slice_index_or, is_none, is_some, Option, Some, None}
 use Rattle.std.specs.List.{range_with_len}
 use Rattle.cmm_abi.specs.Registers.{callee_saves}
-use Rattle.cmm_bitset.specs.Sets.{has}
+use Rattle.cmm_bitset.specs.Sets.{has, union}
 use Rattle.cmm_chain.specs.declared.frame.Location.{Location}
 use Rattle.cmm_chain.specs.declared.frame.Location.TheVariants.{Slot, Saved, Temp}
 use Rattle.cmm_colour.specs.Colours.{AreColours, colour_of}
@@ -21,10 +21,40 @@ pub record IsColoured (g : Graph) (class : List Bool) (k : ℕ) (colours : List 
   pub colours_are : AreColours graph k colours
 
 -- both classes, and colours for each by its registers
-pub record AreRegisters (g : Graph) (live : LiveSets) (first : List Bool) (colours : List (Option ℕ)) (second : List Bool) (others : List (Option ℕ)) : Type 0 where
+pub record AreApart (g : Graph) (live : LiveSets) (first : List Bool) (colours : List (Option ℕ)) (second : List Bool) (others : List (Option ℕ)) : Type 0 where
   pub classes : AreClasses g live first second
   pub first_coloured : IsColoured g first (length temporaries) colours
   pub second_coloured : IsColoured g second (length callee_saves) others
+
+abbrev pub lacks_colour : List Bool → List (Option ℕ) → ℕ → Bool
+lacks_colour class colours v = has class v && is_none (colour_of colours v)
+
+-- of the numbers below a count, a set has the members of a class that have no colour
+pub record HaveNoColour (class : List Bool) (colours : List (Option ℕ)) (count : ℕ) (left : List Bool) : Type 0 where
+  pub size_is : length left ≡ length class
+  pub below : (v : ℕ) → v < count → has left v ≡ lacks_colour class colours v
+  pub past : (v : ℕ) → count ≤ v → has left v ≡ false
+
+-- each member of a class that has a colour has one among others
+abbrev pub AreKept : List Bool → List (Option ℕ) → List (Option ℕ) → Type 0
+AreKept class colours others = (v : ℕ) → has class v ≡ true → is_some (colour_of colours v) ≡ true → is_some (colour_of others v) ≡ true
+
+-- A class and more locals are coloured together: so they share the callee-saves registers, if each member of the class that has one without them is kept
+-- one, and else the class has them alone.
+pub record IsShared (g : Graph) (class : List Bool) (colours : List (Option ℕ)) (more second : List Bool) (others : List (Option ℕ)) : Type 0 where
+  pub together : List (Option ℕ)
+  pub coloured : IsColoured g (union class more) (length callee_saves) together
+  pub outcome : (AreKept class colours together × (second ≡ union class more) × (others ≡ together))
+      ⊎ ((AreKept class colours together → ⊥) × (second ≡ class) × (others ≡ colours))
+
+-- colours by the temporary registers, and by the callee-saves registers, which those without a temporary one share
+pub record AreRegisters (g : Graph) (live : LiveSets) (first : List Bool) (colours : List (Option ℕ)) (second : List Bool) (others : List (Option ℕ)) : Type 0 where
+  pub class : List Bool
+  pub alone : List (Option ℕ)
+  pub apart : AreApart g live first colours class alone
+  pub left : List Bool
+  pub left_over : HaveNoColour first colours (length first) left
+  pub shared : IsShared g class alone left second others
 
 -- the register of a colour
 abbrev pub with_colour : List ℕ → Option ℕ → Option ℕ

@@ -6,7 +6,7 @@ use Rattle.cmm_program.specs.Bounds.{code_bound}
 use Rattle.cmm_program.specs.InRange.{IsInRange}
 use Rattle.cmm_program.specs.State.{Setting}
 use Rattle.cmm_graph.specs.declared.graph.Graph.{Graph}
-use Rattle.cmm_folded.specs.Flow.{IsFoldedFlow}
+use Rattle.cmm_hoisted.specs.Flow.{IsHoistedFlow}
 use Rattle.cmm_located.specs.SameOrders.{HasFrames}
 use Rattle.cmm_allocate.specs.declared.procedure.ProcedurePlaces.{ProcedurePlaces}
 use Rattle.cmm_allocate.specs.Compiling.{compiled}
@@ -25,23 +25,23 @@ use Rattle.cmm_compile.specs.Agreement.{AgreesWith}
 
 -- the nodes of a program in range have tokens enough for their code
 abbrev pub ProgramsAreCovered : Type 0
-ProgramsAreCovered = (p : Program) (graphs : List Graph) (found : List ProcedurePlaces) → IsInRange p → AllZip IsFoldedFlow p.procs graphs →
+ProgramsAreCovered = (p : Program) (graphs : List Graph) (found : List ProcedurePlaces) → IsInRange p → AllZip IsHoistedFlow p.procs graphs →
     HavePlaces p.procs graphs found → AreCovered graphs found
 
 -- and the code of a procedure, with one instruction behind it, at most 64 for each token of the procedure
 abbrev pub ProgramsAreShort : Type 0
-ProgramsAreShort = (p : Program) (graphs : List Graph) (found : List ProcedurePlaces) → IsInRange p → AllZip IsFoldedFlow p.procs graphs →
+ProgramsAreShort = (p : Program) (graphs : List Graph) (found : List ProcedurePlaces) → IsInRange p → AllZip IsHoistedFlow p.procs graphs →
     HavePlaces p.procs graphs found → AreShort p.procs graphs found
 
 -- the sets of its places have just the variables that are live at its call sites
 abbrev pub PlacesKnowLive : Type 0
-PlacesKnowLive = (p : Program) (graphs : List Graph) (found : List ProcedurePlaces) → IsInRange p → AllZip IsFoldedFlow p.procs graphs →
+PlacesKnowLive = (p : Program) (graphs : List Graph) (found : List ProcedurePlaces) → IsInRange p → AllZip IsHoistedFlow p.procs graphs →
     HavePlaces p.procs graphs found → KnowLive p.procs found
 
 -- What the passes make of a program: its graphs, their places, code for these, and an image with that code.
 pub record IsMade (p : Program) (graphs : List Graph) (found : List ProcedurePlaces) (t : Text) (i : ImageParts) : Type 0 where
   pub range : IsInRange p
-  pub flows : AllZip IsFoldedFlow p.procs graphs
+  pub flows : AllZip IsHoistedFlow p.procs graphs
   pub places : HavePlaces p.procs graphs found
   pub frames : HaveFrames p.procs found
   pub runs : (s : Setting) → s.program ≡ p → HasFrames s (compiled graphs found) → RunsOverPlaces s graphs found

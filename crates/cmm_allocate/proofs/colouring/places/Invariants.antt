@@ -3,4 +3,4 @@ use Rattle.cmm_allocate.proofs.colouring.places.Given as goal
 
 abbrev pub invariant-loop-number : goal.invariant-loop-number
 invariant-loop-number l =
-    AreHomes (register_in l.registers.classes.temporary l.registers.temporary l.registers.classes.callee_saves l.registers.callee_saves) l.number l.locals l.end
+    AreHomes (register_in l.registers.temporary.class l.registers.temporary.colours l.registers.callee_saves.class l.registers.callee_saves.colours) l.number l.locals l.end

@@ -3,7 +3,7 @@ use Rattle.std.proofs.lemmas.Slice.Zip.{AllZip-long}
 use Rattle.std.specs.List.{AllZip, zip}
 use Rattle.cmm_live.specs.declared.live_sets.LiveSets.{LiveSets}
 use Rattle.cmm_live.specs.Exact.{AreLiveSets}
-use Rattle.cmm_folded.specs.Flow.{IsFoldedFlow}
+use Rattle.cmm_hoisted.specs.Flow.{AreFlowsWithin, IsHoistedFlow}
 use Rattle.cmm_program.specs.declared.procedure.Proc.{Proc}
 use Rattle.cmm_program.specs.declared.program.Program.{Program}
 use Rattle.cmm_program.specs.InRange.{IsInRange}
@@ -139,7 +139,8 @@ returns-clause-runs c s same frames =
     let found = c.loop-sets.found in
     record {
       range = subst IsInRange (sym same) c.requires.range;
-      flows = subst (λ (p : Program). AllZip IsFoldedFlow p.procs graphs) (sym same) c.requires.flows;
+      flows = subst (λ (p : Program). AllZip IsHoistedFlow p.procs graphs) (sym same) c.requires.flows;
+      within = subst (λ (p : Program). AreFlowsWithin p graphs) (sym same) c.requires.within;
       places = subst (λ (p : Program). HavePlaces p.procs graphs found) (sym same) (returns-clause-places c);
       frames = frames;
     }

@@ -1,7 +1,7 @@
 use Rattle.std.proofs.Common.{arith, map, subst, sym}
 use Rattle.std.proofs.lemmas.Slice.Zip.{AllZip-long}
 use Rattle.std.specs.List.Sorted.{IsNonDecreasingBy}
-use Rattle.cmm_folded.specs.Flow.{IsFoldedFlow}
+use Rattle.cmm_hoisted.specs.Flow.{IsHoistedFlow}
 use Rattle.cmm_program.specs.declared.program.Program.{Program}
 use Rattle.cmm_compile.proofs.Ascending.{sorted_ascend}
 use Rattle.cmm_compile.proofs.Few.{few_locals, few_spans}
@@ -13,13 +13,16 @@ lay_out-requires c =
 
 pub liveness_of_all-requires : goal.liveness_of_all-requires
 liveness_of_all-requires c =
-    let flows = c.passes_fit.ensures.folded c.in_ok-program.program.procs c.in_ok-unfolded.unfolded c.fold_all-graphs.result c.in_ok-unfolded.ensures.each c.fold_all-graphs.ensures.stands in
-    rw c.as_slice.ensures (few_locals c.passes_fit.ensures.bounded c.in_ok-program.program c.in_ok-program.program.procs c.fold_all-graphs.result c.in_ok-program.ensures.range.procedures flows)
+    let flows = c.in_ok-graphs.ensures.flows in
+    rw c.as_slice.ensures (few_locals c.passes_fit.ensures.bounded c.in_ok-program.program c.in_ok-program.program.procs c.in_ok-graphs.graphs c.in_ok-program.ensures.range.procedures flows)
 
 pub place_program-requires-clause-flows : goal.place_program-requires-clause-flows
 place_program-requires-clause-flows c =
-    let flows = c.passes_fit.ensures.folded c.in_ok-program.program.procs c.in_ok-unfolded.unfolded c.fold_all-graphs.result c.in_ok-unfolded.ensures.each c.fold_all-graphs.ensures.stands in
+    let flows = c.in_ok-graphs.ensures.flows in
     rw c.as_slice-2.ensures flows
+
+pub place_program-requires-clause-within : goal.place_program-requires-clause-within
+place_program-requires-clause-within c = rw c.as_slice-2.ensures c.in_ok-graphs.ensures.within
 
 pub place_program-requires-clause-live : goal.place_program-requires-clause-live
 place_program-requires-clause-live c =
@@ -32,7 +35,7 @@ lay_program-requires-clause-ascending c =
 
 pub lay_program-requires-clause-flows : goal.lay_program-requires-clause-flows
 lay_program-requires-clause-flows c =
-    let flows = c.passes_fit.ensures.folded c.in_ok-program.program.procs c.in_ok-unfolded.unfolded c.fold_all-graphs.result c.in_ok-unfolded.ensures.each c.fold_all-graphs.ensures.stands in
+    let flows = c.in_ok-graphs.ensures.flows in
     rw c.as_slice-3.ensures flows
 
 pub lay_program-requires-clause-places : goal.lay_program-requires-clause-places
@@ -41,13 +44,13 @@ lay_program-requires-clause-places c =
 
 pub lay_program-requires-clause-covered : goal.lay_program-requires-clause-covered
 lay_program-requires-clause-covered c =
-    let flows = c.passes_fit.ensures.folded c.in_ok-program.program.procs c.in_ok-unfolded.unfolded c.fold_all-graphs.result c.in_ok-unfolded.ensures.each c.fold_all-graphs.ensures.stands in
-    rw (c.as_slice-3.ensures, c.as_slice-4.ensures) (c.passes_fit.ensures.covered c.in_ok-program.program c.fold_all-graphs.result c.in_ok-places.places c.in_ok-program.ensures.range flows (rw c.as_slice-2.ensures at c.in_ok-places.ensures.places))
+    let flows = c.in_ok-graphs.ensures.flows in
+    rw (c.as_slice-3.ensures, c.as_slice-4.ensures) (c.passes_fit.ensures.covered c.in_ok-program.program c.in_ok-graphs.graphs c.in_ok-places.places c.in_ok-program.ensures.range flows (rw c.as_slice-2.ensures at c.in_ok-places.ensures.places))
 
 pub lay_program-requires-clause-short : goal.lay_program-requires-clause-short
 lay_program-requires-clause-short c =
-    let flows = c.passes_fit.ensures.folded c.in_ok-program.program.procs c.in_ok-unfolded.unfolded c.fold_all-graphs.result c.in_ok-unfolded.ensures.each c.fold_all-graphs.ensures.stands in
-    rw (c.as_slice-3.ensures, c.as_slice-4.ensures) (c.passes_fit.ensures.short c.in_ok-program.program c.fold_all-graphs.result c.in_ok-places.places c.in_ok-program.ensures.range flows (rw c.as_slice-2.ensures at c.in_ok-places.ensures.places))
+    let flows = c.in_ok-graphs.ensures.flows in
+    rw (c.as_slice-3.ensures, c.as_slice-4.ensures) (c.passes_fit.ensures.short c.in_ok-program.program c.in_ok-graphs.graphs c.in_ok-places.places c.in_ok-program.ensures.range flows (rw c.as_slice-2.ensures at c.in_ok-places.ensures.places))
 
 pub lay_program-requires-clause-labels : goal.lay_program-requires-clause-labels
 lay_program-requires-clause-labels c =
@@ -56,15 +59,15 @@ lay_program-requires-clause-labels c =
 
 pub link-requires-clause-frames : goal.link-requires-clause-frames
 link-requires-clause-frames c =
-    let flows = c.passes_fit.ensures.folded c.in_ok-program.program.procs c.in_ok-unfolded.unfolded c.fold_all-graphs.result c.in_ok-unfolded.ensures.each c.fold_all-graphs.ensures.stands in
+    let flows = c.in_ok-graphs.ensures.flows in
     rw c.as_slice-5.ensures
-    (c.passes_fit.ensures.frames c.in_ok-program.program.procs c.fold_all-graphs.result c.in_ok-places.places (AllZip-long IsFoldedFlow c.in_ok-program.program.procs c.fold_all-graphs.result flows) (rw c.as_slice-2.ensures at c.in_ok-places.ensures.places))
+    (c.passes_fit.ensures.frames c.in_ok-program.program.procs c.in_ok-graphs.graphs c.in_ok-places.places (AllZip-long IsHoistedFlow c.in_ok-program.program.procs c.in_ok-graphs.graphs flows) (rw c.as_slice-2.ensures at c.in_ok-places.ensures.places))
 
 pub link-requires-clause-live : goal.link-requires-clause-live
 link-requires-clause-live c =
-    let flows = c.passes_fit.ensures.folded c.in_ok-program.program.procs c.in_ok-unfolded.unfolded c.fold_all-graphs.result c.in_ok-unfolded.ensures.each c.fold_all-graphs.ensures.stands in
+    let flows = c.in_ok-graphs.ensures.flows in
     rw c.as_slice-5.ensures
-    (c.passes_fit.ensures.live c.in_ok-program.program c.fold_all-graphs.result c.in_ok-places.places c.in_ok-program.ensures.range flows (rw c.as_slice-2.ensures at c.in_ok-places.ensures.places))
+    (c.passes_fit.ensures.live c.in_ok-program.program c.in_ok-graphs.graphs c.in_ok-places.places c.in_ok-program.ensures.range flows (rw c.as_slice-2.ensures at c.in_ok-places.ensures.places))
 
 pub link-requires-clause-spans : goal.link-requires-clause-spans
 link-requires-clause-spans c = few_spans c.in_ok-program.program.procs c.in_ok-program.ensures.spans
@@ -81,17 +84,17 @@ link-requires-clause-room c t is =
 
 pub returns-clause-ok : goal.returns-clause-ok
 returns-clause-ok c =
-    let flows = c.passes_fit.ensures.folded c.in_ok-program.program.procs c.in_ok-unfolded.unfolded c.fold_all-graphs.result c.in_ok-unfolded.ensures.each c.fold_all-graphs.ensures.stands in
+    let flows = c.in_ok-graphs.ensures.flows in
     let linked = c.in_ok-image.ensures in
     let t = linked.0 in (
       c.in_ok-program.ensures.ok,
-      c.passes_fit.ensures.agree c.in_ok-program.program c.fold_all-graphs.result c.in_ok-places.places t c.in_ok-image.image record {
+      c.passes_fit.ensures.agree c.in_ok-program.program c.in_ok-graphs.graphs c.in_ok-places.places t c.in_ok-image.image record {
         range = c.in_ok-program.ensures.range;
         flows = flows;
         places = rw c.as_slice-2.ensures at c.in_ok-places.ensures.places;
         frames =
-            c.passes_fit.ensures.frames c.in_ok-program.program.procs c.fold_all-graphs.result c.in_ok-places.places
-            (AllZip-long IsFoldedFlow c.in_ok-program.program.procs c.fold_all-graphs.result flows) (rw c.as_slice-2.ensures at c.in_ok-places.ensures.places);
+            c.passes_fit.ensures.frames c.in_ok-program.program.procs c.in_ok-graphs.graphs c.in_ok-places.places
+            (AllZip-long IsHoistedFlow c.in_ok-program.program.procs c.in_ok-graphs.graphs flows) (rw c.as_slice-2.ensures at c.in_ok-places.ensures.places);
         runs = rw c.as_slice-2.ensures at c.in_ok-places.ensures.runs;
         text = c.in_ok-code.ensures.text t linked.1;
         size = c.in_ok-code.ensures.size t linked.1;

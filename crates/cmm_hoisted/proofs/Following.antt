@@ -1,0 +1,203 @@
+-- Runs over hoisted flows follow runs of the C-- machine: they simulate runs over the folded flows, once the chain of `main` is done.
+use Rattle.std.proofs.Common.{◌≡◌, ℕ, zero, suc, ◌+◌, ◌-◌, ◌*◌, ◌/◌, ◌<◌, ◌≤◌, inl, inr, refl, sym, ◌∙◌, ap, subst, arith, List, [], ◌∷◌, length}
+use Rattle.std.proofs.lemmas.Option.{slice_get_cases}
+use Rattle.std.specs.Prelude.{slice_get, Bool, true, false, Option, Some, None}
+use Rattle.std.specs.List.{All, AllZip}
+use Rattle.cmm_simulation.proofs.Composing.{follows_simulated}
+use Rattle.cmm_simulation.proofs.Paths.{joined, weaker}
+use Rattle.cmm_simulation.proofs.Runs.{spent_scaled}
+use Rattle.cmm_simulation.proofs.Scaling.{follows_scaled}
+use Rattle.cmm_simulation.specs.Following.{Follows}
+use Rattle.cmm_simulation.specs.Machine.{Machine, after, spent}
+use Rattle.cmm_simulation.specs.Observing.{Level, Passes}
+use Rattle.cmm_simulation.specs.Seen.{IsWithin}
+use Rattle.cmm_simulation.specs.Simulation.{Leads}
+use Rattle.cmm_machine_laws.proofs.Shared.{machine_lasts}
+use Rattle.cmm_machine_laws.specs.Fitting.{IsSetUp}
+use Rattle.cmm_machine_laws.specs.Observed.{Call, Ending, machine_of, store_seen}
+use Rattle.cmm_program.proofs.Shared.{all_get}
+use Rattle.cmm_program.specs.Bounds as bounds
+use Rattle.cmm_program.specs.Control.{Control, State, landed}
+use Rattle.cmm_program.specs.Exits.{Instead, Landing, land}
+use Rattle.cmm_program.specs.Frames.{procedure_at}
+use Rattle.cmm_program.specs.InRange.{IsProcInRange}
+use Rattle.cmm_program.specs.Machine.{first_store, start}
+use Rattle.cmm_program.specs.Memory.{IsByte}
+use Rattle.cmm_program.specs.State.{Running, Setting, Status, Store, Wrong}
+use Rattle.cmm_program.specs.Todo.{Todo, todo_control}
+use Rattle.cmm_program.specs.declared.procedure.Proc.{Proc}
+use Rattle.cmm_graph.specs.GraphControl.{Position, graph_control}
+use Rattle.cmm_graph.specs.GraphMachine.{graph_start}
+use Rattle.cmm_graph.specs.Laws.{OrderIsByReads, ValueIsByReads}
+use Rattle.cmm_graph.specs.declared.graph.Graph.{Graph}
+use Rattle.cmm_hoist.specs.Graphs.{IsHoistedFrom}
+use Rattle.cmm_flow.specs.Relation.{longest, longest_of}
+use Rattle.cmm_folded.specs.Flow.{IsFoldedFlow}
+use Rattle.cmm_folded.specs.Laws.{FoldedFlowsAreGraphs, FoldedFlowsFollow}
+use Rattle.cmm_hoisted.specs.Flow.{AreFlowsWithin, IsFlowWithin}
+use Rattle.cmm_hoisted.specs.Laws.{AreCostsWithin, HoistedFlowsFollow}
+use Rattle.cmm_hoisted.proofs.ChainRuns.{IsSilent, machine}
+use Rattle.cmm_hoisted.proofs.Costs.{are_costs, cost_before}
+use Rattle.cmm_hoisted.proofs.Relation.{GoOn, HasGraphs, Hoisted, Stand, go_on}
+use Rattle.cmm_hoisted.proofs.Simulating.{enters, is_wrong, level_by_store, simulates}
+use Rattle.cmm_hoisted.proofs.Steps.{Together, landed_by, lands}
+
+-- ---- steps before a run that follows
+
+module _ {S T L C E : Type 0} {A : Machine S L C E} {B : Machine T L C E} {a : S → ℕ} {b : T → ℕ} where
+  -- Steps that are passed while the first machine makes its first one belong to each of its steps.
+  preceded : {s : S} {t : T} (more : ℕ) → Level A B s t → Leads B b (Passes A B s) (Follows A a B b s) 0 more t → Follows A (λ u. a u + more) B b s t
+  preceded {s = s} {t = t} more level first = record { leads = by }
+    where
+      by : (m : ℕ) → A.wrong (after A m s) ≡ false →
+          Leads B b (λ u. (i : ℕ) × (i < m) × Passes A B (after A i s) u) (Level A B (after A m s)) m (spent A (λ u. a u + more) m s) t
+      by zero right = record { steps = 0; through = λ i less. absurd (omega arith); arrives = level; enough = omega arith; within = omega arith }
+      by (suc m) right =
+          let dearer = spent_scaled A 1 1 a (λ u. a u + more) (λ u. omega arith) m s in
+          joined {l = 0} {m = more} {n = suc m} {o = spent A a (suc m) s}
+          (weaker first (λ u p. (0, omega arith, p)) (λ u follows. follows) (omega arith) (λ n le. le)) (λ u follows. follows.leads (suc m) right)
+          (omega arith) (omega (arith, dearer))
+
+-- ---- the store after a landing
+
+landed_same : {C D : Type 0} (k : Control C) (l : Control D) (s : Setting) (landing : Landing) (store : Store) (cs : List C) (ds : List D) →
+    (landed l s landing store ds).store ≡ (landed k s landing store cs).store
+landed_same k l s landing store cs ds = by (land s landing store)
+  where
+    by : (o : Option Store) → (landed_by l s store ds landing o).store ≡ (landed_by k s store cs landing o).store
+    by (Some there) = refl
+    by None = refl
+
+-- ---- the folded flows
+
+-- the folded flow of a procedure, and its graph
+record AreOf (most greatest : ℕ) (folded graphs : List Graph) (n : ℕ) (q : Proc) : Type 0 where
+  old : Graph
+  new : Graph
+  is_old : slice_get folded n ≡ Some old
+  is_new : slice_get graphs n ≡ Some new
+  flow : IsFoldedFlow q old
+  hoisted : IsHoistedFrom old new
+  spared : most + 2 * length hoisted.kept ≤ greatest
+
+record HaveFolded (most greatest : ℕ) (procs : List Proc) (graphs : List Graph) : Type 0 where
+  folded : List Graph
+  are : AllZip IsFoldedFlow procs folded
+  each : (n : ℕ) (q : Proc) → slice_get procs n ≡ Some q → AreOf most greatest folded graphs n q
+
+and_folded : (most greatest : ℕ) (q : Proc) (procs : List Proc) (g : Graph) (graphs : List Graph) → IsFlowWithin most greatest q g →
+    HaveFolded most greatest procs graphs → HaveFolded most greatest (q ∷ procs) (g ∷ graphs)
+and_folded most greatest q procs g graphs is rest = record { folded = is.flow.folded ∷ rest.folded; are = (is.flow.is_folded, rest.are); each = by }
+  where
+    by : (n : ℕ) (r : Proc) → slice_get (q ∷ procs) n ≡ Some r → AreOf most greatest (is.flow.folded ∷ rest.folded) (g ∷ graphs) n r
+    by zero r there =
+        let same : q ≡ r = cc in
+        record {
+          old = is.flow.folded;
+          new = g;
+          is_old = refl;
+          is_new = refl;
+          flow = subst (λ (x : Proc). IsFoldedFlow x is.flow.folded) same is.flow.is_folded;
+          hoisted = is.flow.hoisted;
+          spared = is.spared;
+        }
+    by (suc n) r there =
+        let of = rest.each n r there in
+        record { old = of.old; new = of.new; is_old = of.is_old; is_new = of.is_new; flow = of.flow; hoisted = of.hoisted; spared = of.spared }
+
+folded_of : (most greatest : ℕ) (procs : List Proc) (graphs : List Graph) → AllZip (IsFlowWithin most greatest) procs graphs →
+    HaveFolded most greatest procs graphs
+folded_of most greatest [] [] all = record { folded = []; are = tt; each = λ n q is. absurd (cc) }
+folded_of most greatest [] (g ∷ graphs) all = absurd all
+folded_of most greatest (q ∷ procs) [] all = absurd all
+folded_of most greatest (q ∷ procs) (g ∷ graphs) all = and_folded most greatest q procs g graphs all.0 (folded_of most greatest procs graphs all.1)
+
+within_longest : (procs : List Proc) → bounds.longest procs ≤ longest_of procs
+within_longest [] = omega arith
+within_longest (q ∷ procs) = omega (arith, within_longest procs)
+
+-- ---- whole runs
+
+module _ (s : Setting) (graphs : List Graph) (input : List ℕ) (cost : State Position → ℕ) (within : AreFlowsWithin s.program graphs) (set : IsSetUp s)
+    (bytes : All IsByte input) (costs : AreCostsWithin graphs cost within.most) where
+  abbrev most : ℕ
+  most = within.most
+
+  abbrev greatest : ℕ
+  greatest = bounds.longest s.program.procs
+
+  abbrev have : HaveFolded most greatest s.program.procs graphs
+  have = folded_of most greatest s.program.procs graphs within.all
+
+  -- half of what is left is as many constants as any graph keeps
+  abbrev r : Hoisted
+  r = record { setting = s; olds = have.folded; news = graphs; chained = (greatest - most) / 2 }
+
+  small : most ≤ greatest
+  small = elim (slice_get_cases s.program.procs s.program.main).1 [
+    | inl found ↦ omega (arith, (have.each s.program.main found.0 found.2).spared)
+    | inr past ↦ absurd (omega (arith, past.0, set.program.main))
+  ]
+
+  enough : longest s.program + (most + r.chained) + r.chained ≤ longest s.program + longest s.program
+  enough = omega (arith, small, within_longest s.program.procs)
+
+  abbrev told : Machine (State Todo) ℕ Call Ending
+  told = machine_of (todo_control s.program) s
+
+  abbrev Runs : ℕ → State Position → Type 0
+  Runs each b = Follows told (λ _. each) (machine r) cost (start s input) b
+
+  -- where the run over the folded flows begins
+  abbrev first : State Position
+  first = graph_start r.olds s input
+
+  same_start : first.store ≡ (start s input).store
+  same_start = landed_same (todo_control s.program) (graph_control r.olds) s (Instead s.program.main []) (first_store s input) [] []
+
+  -- the chain of `main` shows nothing more
+  silent_passes : (u : State Position) → first.store.status ≡ Running → IsSilent r first.store u → Passes told (machine r) (start s input) u
+  silent_passes u running silent = record {
+    seen = subst (λ (store : Store). IsWithin (store_seen store) (told.seen (told.step (start s input)))) (sym (silent.shows ∙ same_start))
+        ((machine_lasts (todo_control s.program) s).grows (start s input));
+    asks = λ event at. absurd (cc (silent.asks, at));
+    right = λ right. ap is_wrong silent.shows ∙ ap (λ (status : Status). elim status as (λ _. Bool) [ Wrong error ↦ true | _ ↦ false ]) running;
+  }
+
+  module _ (by_values : ValueIsByReads) (by_reads : OrderIsByReads) (are_graphs : FoldedFlowsAreGraphs) (follow : FoldedFlowsFollow) where
+    have_graphs : (n : ℕ) (q : Proc) → procedure_at s n ≡ Some q → HasGraphs r n
+    have_graphs n q there =
+        let of = have.each n q there in
+        record {
+          procedure = q;
+          old = of.old;
+          new = of.new;
+          is_old = of.is_old;
+          is_new = of.is_new;
+          of = are_graphs s.program q of.old (all_get (IsProcInRange s.program) s.program.procs n q set.program.procedures there) of.flow;
+          hoisted = of.hoisted;
+          few = omega (arith, of.spared, small);
+        }
+
+    go : GoOn r
+    go = go_on r by_values by_reads have_graphs
+
+    from : (b : State Position) → Together (Stand r) first b → Runs (longest s.program + (most + r.chained)) b
+    from b together =
+        let before = are_costs r most (omega (arith, small, within_longest s.program.procs)) in
+        follows_simulated (machine_lasts (todo_control s.program) s) (follow s r.olds input (cost_before r most) (most + r.chained) set bytes have.are before)
+        (simulates go costs) together
+
+    follows : Runs (longest s.program + longest s.program) (graph_start graphs s input)
+    follows = elim (lands go (Instead s.program.main []) (first_store s input) [] [] tt) [
+      | inl together ↦ follows_scaled 1 (λ u. omega (arith, enough)) (λ u. omega arith) (from (graph_start graphs s input) together)
+      | inr begins ↦ follows_scaled 1 (λ u. omega (arith, enough)) (λ u. omega arith)
+          (preceded r.chained
+          (level_by_store (todo_control s.program) (graph_control graphs) s (start s input) (graph_start graphs s input) (begins.store ∙ same_start))
+          (weaker (enters go costs first (graph_start graphs s input) begins) (λ u silent. silent_passes u begins.running silent)
+          (λ u together. from u together) (omega arith) (λ n le. le)))
+    ]
+
+pub hoisted_flows_follow : ValueIsByReads → OrderIsByReads → FoldedFlowsAreGraphs → FoldedFlowsFollow → HoistedFlowsFollow
+hoisted_flows_follow by_values by_reads are_graphs follow s graphs input cost within set bytes costs =
+    follows s graphs input cost within set bytes costs by_values by_reads are_graphs follow
