@@ -1,5 +1,5 @@
 -- What a node has in place of the constants that temporaries keep.
-use Rattle.std.specs.Prelude.{◌≡◌, ◌⊎◌, ℕ, ◌+◌, List, slice_get, Some}
+use Rattle.std.specs.Prelude.{◌≡◌, ◌⊎◌, ℕ, ◌+◌, Bool, true, false, List, slice_get, Some}
 use Rattle.cmm_words.specs.declared.constant.Constant.{Constant}
 use Rattle.cmm_words.specs.declared.operators.Op2.{Op2}
 use Rattle.cmm_words.specs.declared.width.Width.{Width}
@@ -15,6 +15,13 @@ use Rattle.cmm_graph.specs.declared.operand.Rvalue.TheVariants as rvalue
 use Rattle.cmm_graph.specs.declared.node.Node.{Node}
 use Rattle.cmm_graph.specs.declared.node.NodeKind.{NodeKind}
 use Rattle.cmm_graph.specs.declared.node.NodeKind.TheVariants.{Assign, Branch, Store}
+
+-- a node that names no constant in whose place a temporary may stand: what it passes or tests by ranges stays
+abbrev pub is_left : NodeKind → Bool
+is_left (Assign to value next) = false
+is_left (Store width aligned address value next) = false
+is_left (Branch test then_ otherwise) = false
+is_left _ = true
 
 -- the temporary that keeps the constant with this number among those that are kept, where the first of these temporaries is known
 abbrev pub keeper : ℕ → ℕ → Temporary

@@ -1,14 +1,16 @@
 //! What nodes have in place of the constants that are kept.
 
-ghost use Rattle.std.specs.Prelude.{◌≡◌, ◌+◌, ◌^◌, ◌<◌, length, slice_get, IfSome, IsTrue, Some};
-ghost use Rattle.cmm_hoist.specs.Keeping.{NodeStandsFor, OperandStandsFor, RvalueStandsFor, TestStandsFor};
+ghost use Rattle.std.specs.Prelude.{◌≡◌, ◌≢◌, ◌↔◌, ℕ, ◌+◌, ◌^◌, ◌<◌, length, slice_get, IfNone, IfSome, IsTrue, Some, true};
+ghost use Rattle.cmm_words.specs.declared.constant.Constant.{Constant};
+ghost use Rattle.cmm_graph.specs.declared.operand.Operand.TheVariants.{Constant as OfConstant};
+ghost use Rattle.cmm_hoist.specs.Keeping.{IsKept, NodeStandsFor, OperandStandsFor, RvalueStandsFor, TestStandsFor, is_left};
 
 use cmm_graph::{Comparison, Local, Node, NodeKind, Operand, Rvalue, Temporary};
 use cmm_words::{Constant, Op2};
 
 /// Whether two constants are the same.
 pub fn is_same(a: Constant, b: Constant) -> bool
-    ensures { IsTrue result → a ≡ b }
+    ensures { IsTrue result ↔ (a ≡ b) }
 {
     match (a, b) {
         (Constant::Number(word, width), Constant::Number(other, also)) => {
@@ -34,7 +36,8 @@ pub fn is_same(a: Constant, b: Constant) -> bool
 
 /// The number of a constant among those that are kept, if it is one of them.
 pub fn position(kept: &[Constant], constant: Constant) -> Option<usize>
-    ensures { IfSome result (λ index. slice_get kept.now index ≡ Some constant) }
+    ensures some { IfSome result (λ index. slice_get kept.now index ≡ Some constant) }
+    ensures none { IfNone result ((index : ℕ) → slice_get kept.now index ≢ Some constant) }
 {
     for index in 0..kept.len() {
         if is_same(kept[index], constant) {
@@ -47,7 +50,8 @@ pub fn position(kept: &[Constant], constant: Constant) -> Option<usize>
 /// The temporary that keeps an operand, where one does, and else the operand. `first` is the number of the first temporary that keeps one.
 fn operand_for(first: u32, kept: &[Constant], operand: Operand) -> Operand
     requires { first + length kept.now < 2 ^ 32 }
-    ensures { OperandStandsFor first kept.now operand result }
+    ensures stands { OperandStandsFor first kept.now operand result }
+    ensures kept { (index : ℕ) (constant : Constant) → operand ≡ OfConstant constant → slice_get kept.now index ≡ Some constant → IsKept first kept.now operand result }
 {
     match operand {
         Operand::Constant(constant) => match position(kept, constant) {
@@ -130,7 +134,8 @@ fn rvalue_for(first: u32, kept: &[Constant], value: Rvalue) -> Rvalue
 /// The node over the temporaries that keep its constants, if it may name any.
 pub fn node_for(first: u32, kept: &[Constant], node: &Node) -> Option<Node>
     requires { first + length kept.now < 2 ^ 32 }
-    ensures { IfSome result (λ n. NodeStandsFor first kept.now node.now n) }
+    ensures some { IfSome result (λ n. NodeStandsFor first kept.now node.now n) }
+    ensures none { IfNone result (is_left node.now.kind ≡ true) }
 {
     let kind = match node.kind {
         NodeKind::Assign { to, value, next } => NodeKind::Assign {

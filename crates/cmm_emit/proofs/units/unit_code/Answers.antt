@@ -6,14 +6,14 @@ use Rattle.cmm_emit.specs.Outlines.{share}
 use Rattle.cmm_emit.proofs.units.unit_code.Goals as goal
 
 pub make_outline-requires-clause-graphs : goal.make_outline-requires-clause-graphs
-make_outline-requires-clause-graphs c = graphs_counted c.args.program.now c.args.graphs.now c.args.places.now c.requires.range c.requires.flows c.requires.places c.folded_flows_pass_few.ensures.few c.folded_flows_are_graphs.ensures.graphs c.graphs_are_named.ensures
+make_outline-requires-clause-graphs c = graphs_counted c.args.program.now c.args.graphs.now c.args.places.now c.requires.range c.requires.flows c.requires.places c.hoisted_flows_pass_few.ensures.few c.hoisted_flows_are_graphs.ensures.graphs c.graphs_are_named.ensures
 
 pub make_outline-requires-clause-places : goal.make_outline-requires-clause-places
-make_outline-requires-clause-places c = found_counted c.args.program.now c.args.graphs.now c.args.places.now c.requires.range c.requires.flows c.requires.places c.folded_flows_pass_few.ensures.few c.folded_flows_are_graphs.ensures.graphs c.graphs_are_named.ensures
+make_outline-requires-clause-places c = found_counted c.args.program.now c.args.graphs.now c.args.places.now c.requires.range c.requires.flows c.requires.places c.hoisted_flows_pass_few.ensures.few c.hoisted_flows_are_graphs.ensures.graphs c.graphs_are_named.ensures
 
 pub make_outline-requires-clause-few : goal.make_outline-requires-clause-few
 make_outline-requires-clause-few c =
-    labels_fit c.args.program.now c.args.graphs.now c.args.places.now c.requires.range c.requires.flows c.requires.places c.folded_flows_pass_few.ensures.few c.folded_flows_are_graphs.ensures.graphs c.graphs_are_named.ensures
+    labels_fit c.args.program.now c.args.graphs.now c.args.places.now c.requires.range c.requires.flows c.requires.places c.hoisted_flows_pass_few.ensures.few c.hoisted_flows_are_graphs.ensures.graphs c.graphs_are_named.ensures
     c.requires.short c.requires.labels c.args.first c.args.count c.requires.within
 
 pub lay_code-requires-clause-outline : goal.lay_code-requires-clause-outline
@@ -21,8 +21,8 @@ lay_code-requires-clause-outline c = record {
   found = c.args.places.now;
   is_outline = c.in_ok-outline.ensures.made;
   can =
-      can_all_be_laid c.args.program.now c.args.graphs.now c.args.places.now c.requires.range c.requires.flows c.requires.places c.folded_flows_pass_few.ensures.few c.folded_flows_are_graphs.ensures.graphs c.graphs_are_named.ensures
-      c.in_ok-outline.outline c.in_ok-outline.ensures.made c.frames_are_laid.ensures.made c.folded_flows_wait_once.ensures.once c.requires.short;
+      can_all_be_laid c.args.program.now c.args.graphs.now c.args.places.now c.requires.range c.requires.flows c.requires.places c.hoisted_flows_pass_few.ensures.few c.hoisted_flows_are_graphs.ensures.graphs c.graphs_are_named.ensures
+      c.in_ok-outline.outline c.in_ok-outline.ensures.made c.frames_are_laid.ensures.made c.hoisted_flows_wait_once.ensures.once c.requires.short;
 }
 
 pub lay_code-requires-clause-labels : goal.lay_code-requires-clause-labels

@@ -24,7 +24,7 @@ loop-index-preserved c =
     elim c.match-node_for.branch [
       | in-Some w ↦ rw (w.nodes-is, w.set.ensures) record {
         count = length-set nodes i w.in-Some.node ∙ count;
-        walked = walk_steps (NodeStandsFor c.args.first c.args.kept.now) old nodes i node w.in-Some.node there w.in-Some.ensures c.loop-index.invariant.walked;
+        walked = walk_steps (NodeStandsFor c.args.first c.args.kept.now) old nodes i node w.in-Some.node there w.in-Some.ensures.some c.loop-index.invariant.walked;
       }
       | in_default w ↦ rw w.nodes-is record {
         count = count;
