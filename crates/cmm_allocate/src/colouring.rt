@@ -239,9 +239,10 @@ pub fn places(alloc: Global, g: &Graph, live: &LiveSets) -> Result<Items<Locatio
     cmm_live::laws::sets_are_closed();
     cmm_live::laws::sets_decide_conflicts();
     let registers = colour_both(alloc, g, live)?;
-    let mut locals = Items::new(alloc);
+    let count = g.variables + g.temporaries;
+    let mut locals = Items::with_capacity(alloc, count as usize)?;
     let mut end = 0;
-    for number in 0..g.variables + g.temporaries {
+    for number in 0..count {
         let (place, next) = home(registers.of(number), end);
         locals.push(place)?;
         end = next;

@@ -29,7 +29,7 @@ impl Conflicts {
     pub fn new(alloc: Global, nodes: u32) -> Result<Conflicts, AllocError>
         ensures { IfOk result (λ c. c ≡ replicate nodes []) }
     {
-        let mut rows = Vec::new(alloc);
+        let mut rows = Vec::with_capacity(alloc, nodes as usize)?;
         for _ in 0..nodes {
             rows.push(Items::new(alloc))?;
         }

@@ -26,7 +26,7 @@ pub(crate) struct Removed {
 fn degrees(alloc: Global, rows: &[Items<u32>]) -> Result<Vec<usize>, AllocError>
     ensures { IfOk result (λ degrees. degrees.items ≡ map length rows.now) }
 {
-    let mut degrees = Vec::new(alloc);
+    let mut degrees = Vec::with_capacity(alloc, rows.len())?;
     for row in rows {
         degrees.push(row.len())?;
     }

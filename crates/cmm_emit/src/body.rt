@@ -214,7 +214,7 @@ pub(crate) fn body(
                 *site,
                 *callee,
                 arguments.as_slice(),
-                exits,
+                exits.get(),
             )?;
             Ok(())
         }
@@ -230,7 +230,7 @@ pub(crate) fn body(
                 targets,
                 *site,
                 values.as_slice(),
-                exits,
+                exits.get(),
             )?;
             Ok(())
         }

@@ -26,7 +26,7 @@ pub fn labels(asm: &mut Asm, alloc: Global, count: usize) -> Result<Items<Label>
     ensures labels { OnOk result (asm.new.labels ≡ asm.old.labels ++ replicate count (Inner false)) }
     ensures parts { asm.new.parts ≡ asm.old.parts }
 {
-    let mut made = Items::new(alloc);
+    let mut made = Items::with_capacity(alloc, count)?;
     for _ in 0..count {
         made.push(label(asm)?)?;
     }

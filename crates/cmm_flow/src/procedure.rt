@@ -28,7 +28,7 @@ use std::alloc::{AllocError, Global};
 fn repeated(alloc: Global, node: NodeId, count: u32) -> Result<Items<NodeId>, AllocError>
     ensures { IfOk result (λ nodes. nodes ≡ replicate count node) }
 {
-    let mut nodes = Items::new(alloc);
+    let mut nodes = Items::with_capacity(alloc, count as usize)?;
     for _ in 0..count {
         nodes.push(node)?;
     }
@@ -39,7 +39,7 @@ fn repeated(alloc: Global, node: NodeId, count: u32) -> Result<Items<NodeId>, Al
 fn nodes_from(alloc: Global, first: u32, count: u32) -> Result<Items<NodeId>, AllocError>
     ensures { IfOk result (λ nodes. map (λ n. n.number) nodes ≡ range_with_len first count) }
 {
-    let mut nodes = Items::new(alloc);
+    let mut nodes = Items::with_capacity(alloc, count as usize)?;
     let mut number = first;
     for _ in 0..count {
         nodes.push(NodeId { number })?;
@@ -52,7 +52,7 @@ fn nodes_from(alloc: Global, first: u32, count: u32) -> Result<Items<NodeId>, Al
 fn formals(alloc: Global, count: u32) -> Result<Items<Variable>, AllocError>
     ensures { IfOk result (λ formals. map (λ v. v.number) formals ≡ range_with_len 0 count) }
 {
-    let mut formals = Items::new(alloc);
+    let mut formals = Items::with_capacity(alloc, count as usize)?;
     for number in 0..count {
         formals.push(Variable { number })?;
     }
@@ -157,7 +157,11 @@ impl Builder {
             stop,
             nodes: laid,
         } = self;
-        let mut nodes = Items::new(alloc);
+        let around = labels
+            .len()
+            .saturating_add(1)
+            .saturating_add(continuations.len());
+        let mut nodes = Items::with_capacity(alloc, around.saturating_add(laid.len()))?;
         add_gotos(labels.as_slice(), &mut nodes)?;
         add_gotos(&[stop], &mut nodes)?;
         let landing = as_number(nodes.len())?;

@@ -9,7 +9,7 @@ ghost use Rattle.cmm_flow.specs.inside.Passing.{ExitsLead};
 
 use crate::builder::{Builder, as_number, following};
 use cmm_graph::{ContinuationId, Destination, Exits, NodeId, NodeKind, Temporary};
-use cmm_items::Items;
+use cmm_items::{Boxed, Items};
 use cmm_program::{Proc, Site, Target};
 use std::alloc::{AllocError, Global};
 
@@ -75,7 +75,7 @@ impl Builder {
     }
 
     /// The exits of a site by its number; none where the procedure lacks it.
-    pub fn exits_at(&mut self, q: &Proc, site: u32, next: NodeId) -> Result<Exits, AllocError>
+    fn exits_if_there(&mut self, q: &Proc, site: u32, next: NodeId) -> Result<Exits, AllocError>
         ensures { IfOk result (λ exits. Lays (nodes_of_exits (slice_get q.now.sites site)) (next ∷ []) self.old self.new (λ nodes. ExitsLead nodes (slice_get q.now.sites site) exits next)) }
     {
         match q.sites.get(site as usize) {
@@ -87,5 +87,18 @@ impl Builder {
                 cuts: Items::new(self.alloc),
             }),
         }
+    }
+
+    /// The exits of a site by its number, as a node holds them.
+    pub fn exits_at(
+        &mut self,
+        q: &Proc,
+        site: u32,
+        next: NodeId,
+    ) -> Result<Boxed<Exits>, AllocError>
+        ensures { IfOk result (λ exits. Lays (nodes_of_exits (slice_get q.now.sites site)) (next ∷ []) self.old self.new (λ nodes. ExitsLead nodes (slice_get q.now.sites site) exits next)) }
+    {
+        let exits = self.exits_if_there(q, site, next)?;
+        Boxed::new(self.alloc, exits)
     }
 }

@@ -2,7 +2,7 @@
 
 use crate::number::{ContinuationId, NodeId, SiteId, Variable};
 use crate::operand::{Argument, Comparison, Destination, Operand, Rvalue};
-use cmm_items::Items;
+use cmm_items::{Boxed, Items};
 use cmm_program::{Range, Target};
 use cmm_words::Width;
 
@@ -89,13 +89,13 @@ pub enum NodeKind {
         site: SiteId,
         callee: Operand,
         arguments: Items<Argument>,
-        exits: Exits,
+        exits: Boxed<Exits>,
     },
     /// A call of the run-time system.
     Yield {
         site: SiteId,
         values: Items<Operand>,
-        exits: Exits,
+        exits: Boxed<Exits>,
     },
     /// A tail call.
     Jump {

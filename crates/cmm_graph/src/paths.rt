@@ -65,7 +65,7 @@ impl Graph {
                 ..
             } => switch_nodes(arms.as_slice(), *otherwise, alloc),
             NodeKind::Call { exits, .. } | NodeKind::Yield { exits, .. } => {
-                self.exit_nodes(exits, alloc)
+                self.exit_nodes(exits.get(), alloc)
             }
             NodeKind::Cut { own, .. } => self.landings(own.as_slice(), alloc),
             NodeKind::Jump { .. } | NodeKind::Return { .. } | NodeKind::Stop => Ok(Items::new(

@@ -310,7 +310,7 @@ fn write_transfer<W: fmt::Write>(kind: &NodeKind, f: &mut fmt::Formatter<W>) -> 
         } => {
             write!(f, "call {site} {callee} (")?;
             write_list(arguments.as_slice(), f)?;
-            write!(f, ") {exits}")
+            write!(f, ") {}", exits.get())
         }
         NodeKind::Yield {
             site,
@@ -319,7 +319,7 @@ fn write_transfer<W: fmt::Write>(kind: &NodeKind, f: &mut fmt::Formatter<W>) -> 
         } => {
             write!(f, "yield {site} (")?;
             write_list(values.as_slice(), f)?;
-            write!(f, ") {exits}")
+            write!(f, ") {}", exits.get())
         }
         NodeKind::Jump { callee, arguments } => {
             write!(f, "jump {callee} (")?;

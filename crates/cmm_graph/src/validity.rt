@@ -237,10 +237,10 @@ impl Graph {
             } => {
                 self.has_operand(*callee)
                     && self.has_arguments(arguments.as_slice())
-                    && self.has_exits(exits)
+                    && self.has_exits(exits.get())
             }
             NodeKind::Yield { values, exits, .. } => {
-                self.has_operands(values.as_slice()) && self.has_exits(exits)
+                self.has_operands(values.as_slice()) && self.has_exits(exits.get())
             }
             NodeKind::Jump { callee, arguments } => {
                 self.has_operand(*callee) && self.has_arguments(arguments.as_slice())

@@ -42,6 +42,14 @@ impl<T> Items<T> {
         }
     }
 
+    /// No items, with room for so many, so that as many are added without taking memory again.
+    pub fn with_capacity(alloc: Global, capacity: usize) -> Result<Items<T>, AllocError>
+        ensures { IfOk result (λ made. made ≡ []) }
+    {
+        let items = Vec::with_capacity(alloc, capacity)?;
+        Ok(Items { items })
+    }
+
     /// The elements of a vector. Takes no memory.
     pub fn from_vec(items: Vec<T>) -> Items<T>
         ensures { result ≡ items.items }
@@ -102,11 +110,17 @@ impl<T> Items<T> {
     }
 
     /// Adds an item at the end. An error gives the item back.
+    ///
+    /// The room for items is one at first and then doubles, since most lists that a unit makes have one item or two.
     pub fn push(&mut self, item: T) -> Result<(), AllocFailed<T>>
         ensures ok { OnOk result (self.new ≡ self.old ++ item ∷ []) }
         ensures err { OnErr result (self.new ≡ self.old) }
         ensures item { IfErr result (λ failed. failed.value ≡ item) }
     {
+        let len = self.items.len();
+        if len == self.items.capacity() && self.items.reserve_exact(len.max(1)).is_err() {
+            return Err(AllocFailed { value: item });
+        }
         self.items.push(item)
     }
 

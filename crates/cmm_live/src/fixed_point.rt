@@ -22,7 +22,7 @@ use std::alloc::{AllocError, Global};
 pub fn empty_sets(alloc: Global, count: usize, size: u32) -> Result<Vec<BitSet>, AllocError>
     ensures { IfOk result (λ sets. sets.items ≡ replicate count (replicate size false)) }
 {
-    let mut sets = Vec::new(alloc);
+    let mut sets = Vec::with_capacity(alloc, count)?;
     for index in 0..count {
         sets.push(BitSet::new(alloc, size)?)?;
     }

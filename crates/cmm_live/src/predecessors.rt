@@ -11,7 +11,7 @@ use std::alloc::{AllocError, Global};
 fn empty_lists(alloc: Global, count: usize) -> Result<Vec<Items<usize>>, AllocError>
     ensures { IfOk result (λ lists. lists.items ≡ replicate count []) }
 {
-    let mut lists = Vec::new(alloc);
+    let mut lists = Vec::with_capacity(alloc, count)?;
     for index in 0..count {
         lists.push(Items::new(alloc))?;
     }

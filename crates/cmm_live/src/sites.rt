@@ -59,7 +59,7 @@ fn cut_nodes(alloc: Global, g: &Graph, kind: &NodeKind) -> Result<Items<NodeId>,
 {
     match kind {
         NodeKind::Call { exits, .. } | NodeKind::Yield { exits, .. } => {
-            landings(alloc, g, exits.cuts.as_slice())
+            landings(alloc, g, exits.get().cuts.as_slice())
         }
         _ => Ok(Items::new(alloc)),
     }

@@ -11,7 +11,7 @@ ghost use Rattle.rv_asm.specs.Assembly.{ArePlaced, Fits, IsInner, IsLabel, IsTar
 
 use crate::finishing::{Placed, finish, fits};
 use crate::part::{Label, Meaning, Part};
-use cmm_items::Items;
+use cmm_items::{Boxed, Items};
 use cmm_words::Cmp;
 use rv_table::Instr;
 use std::alloc::{AllocError, Global};
@@ -191,7 +191,7 @@ impl Asm {
         ensures labels { self.new.labels ≡ self.old.labels }
     {
         let labels = Items::from_vec(to.to_vec(self.alloc)?);
-        self.add(Part::Table(labels))
+        self.add(Part::Table(Boxed::new(self.alloc, labels)?))
     }
 
     /// The bytes of the parts for code at an address. A branch, a jump or a call is one word where that reaches its label (RISC-V ISA, 2.5:

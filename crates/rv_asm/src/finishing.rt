@@ -101,7 +101,8 @@ fn bytes_of(
     requires room { base + all_longest parts.now ≤ 2 ^ 30 }
     ensures { IfOk result (λ bytes. bytes.items ≡ code_of (code_by labels.now places.now unfilled base parts.now)) }
 {
-    let mut bytes = Vec::new(alloc);
+    // (most parts are one word)
+    let mut bytes = Vec::with_capacity(alloc, parts.len().saturating_mul(4))?;
     let mut address = base;
     for part in parts {
         add_part(&mut bytes, part, labels, places, address)?;

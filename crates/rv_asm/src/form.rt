@@ -29,7 +29,7 @@ pub fn size(part: &Part) -> u64
         Part::Place(_) => 0,
         Part::Branch { .. } => 12,
         Part::Jump(_) | Part::Call(_) | Part::Address { .. } => 8,
-        Part::Table(labels) => 12 * labels.len() as u64 + 4,
+        Part::Table(labels) => 12 * labels.get().len() as u64 + 4,
     }
 }
 
@@ -42,7 +42,7 @@ pub fn shortest_size(part: &Part) -> u64
         Part::Single(_) | Part::Branch { .. } | Part::Jump(_) | Part::Call(_) => 4,
         Part::Place(_) => 0,
         Part::Address { .. } => 8,
-        Part::Table(labels) => 4 * labels.len() as u64 + 4,
+        Part::Table(labels) => 4 * labels.get().len() as u64 + 4,
     }
 }
 
@@ -226,7 +226,7 @@ fn add_far_form(
             let n = number(labels, places, *of, from);
             add_address(bytes, labels[of.number as usize], *rd, n)?;
         }
-        Part::Table(to) => add_table(bytes, to.as_slice(), labels, places, from)?,
+        Part::Table(to) => add_table(bytes, to.get().as_slice(), labels, places, from)?,
     }
     Ok(())
 }

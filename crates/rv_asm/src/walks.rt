@@ -34,7 +34,7 @@ fn first_sizes(alloc: Global, parts: &[Part], labels: &[Meaning]) -> Result<Vec<
     requires { All (Fits labels.now) parts.now }
     ensures { IfOk result (λ sizes. sizes.items ≡ map (first_size labels.now) parts.now) }
 {
-    let mut sizes = Vec::new(alloc);
+    let mut sizes = Vec::with_capacity(alloc, parts.len())?;
     for part in parts {
         sizes.push(first_size(part, labels))?;
     }

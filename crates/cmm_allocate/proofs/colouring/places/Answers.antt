@@ -13,7 +13,7 @@ use Rattle.cmm_allocate.proofs.colouring.places.Goals as goal
 pub loop-number-init : goal.loop-number-init
 loop-number-init c =
     let r = c.in_ok-registers.registers in
-    rw c.new-locals.ensures (no_homes (register_in r.temporary.class r.temporary.colours r.callee_saves.class r.callee_saves.colours))
+    rw c.in_ok-locals.ensures (no_homes (register_in r.temporary.class r.temporary.colours r.callee_saves.class r.callee_saves.colours))
 
 pub of-requires-clause-number : goal.of-requires-clause-number
 of-requires-clause-number c = let size = c.in_ok-registers.ensures.apart.classes.temporary.size in omega (arith, size)

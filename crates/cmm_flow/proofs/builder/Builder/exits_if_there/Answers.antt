@@ -4,7 +4,7 @@ use Rattle.cmm_flow.specs.inside.Nodes.{nodes_of_exits}
 use Rattle.cmm_flow.specs.inside.Passing.{ExitsLead}
 use Rattle.cmm_flow.proofs.Laying.{if_ok, lays_other}
 use Rattle.cmm_flow.proofs.Passing.{normal_there}
-use Rattle.cmm_flow.proofs.builder.Builder.exits_at.Goals as goal
+use Rattle.cmm_flow.proofs.builder.Builder.exits_if_there.Goals as goal
 
 pub returns-in-Some : goal.returns-in-Some
 returns-in-Some c =
