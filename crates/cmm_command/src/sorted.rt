@@ -1,9 +1,9 @@
 //! Words by the option or the position that they were given to.
 
-ghost use Rattle.std.specs.Prelude.{◌≡◌, true, nat_le, length, map, option_map, string_bytes};
+ghost use Rattle.std.specs.Prelude.{◌≡◌, ℕ, List, true, nat_le, length, map, option_map, string_bytes, codes, Some};
 ghost use Rattle.std.specs.List.{list_all};
 ghost use Rattle.clap.specs.Words.{app_of, found_of, is_simple_and_free, rows_of};
-ghost use Rattle.cmm_command.specs.Reading.{Gives, file_if_given, file_name, file_of, file_names, files_of, limits_of, number_in, read_or, sorted};
+ghost use Rattle.cmm_command.specs.Reading.{◌>>=◌ as followed_by, Gives, file_if_given, file_name, file_of, file_names, files_of, limits_of, number_in, read_or, sorted};
 ghost use Rattle.cmm_command.specs.Meaning.{two_files};
 ghost use Rattle.cmm_command.specs.Numbers.{number_of, stack_of, steps_of};
 
@@ -51,8 +51,15 @@ pub fn two_files<'a>(
     ensures { Gives (λ files. (files.0.now, files.1.now)) (two_files (app_of command.entry) other.now (map string_bytes words.entry.now)) result }
 {
     let matches = sorted(command, words)?;
-    let image = file(&matches, IMAGE)?;
-    let file = file(&matches, other)?;
+    image_and(&matches, other)
+}
+
+/// The file of an image, and another file, of words that are sorted.
+fn image_and<'a>(matches: &ArgMatches<'a>, other: &str) -> Result<(&'a str, &'a str), CommandFault>
+    ensures { Gives {B = List ℕ × List ℕ} (λ files. (files.0.now, files.1.now)) (followed_by (file_of (codes "image") (rows_of (found_of matches.now))) (λ image. followed_by (file_of other.now (rows_of (found_of matches.now))) (λ file. Some (image, file)))) result }
+{
+    let image = file(matches, IMAGE)?;
+    let file = file(matches, other)?;
     Ok((image, file))
 }
 

@@ -1,9 +1,10 @@
 //! Commands from words.
 
 ghost use Rattle.std.specs.Prelude.{◌≡◌, map, string_bytes};
+ghost use Rattle.clap.specs.Words.{found_of, rows_of};
 ghost use Rattle.cmm_command.specs.declared.first_word.FirstWord.TheVariants as first;
 ghost use Rattle.cmm_command.specs.FirstWords.{first_word_in};
-ghost use Rattle.cmm_command.specs.Meaning.{meaning_by, meaning_of, plain};
+ghost use Rattle.cmm_command.specs.Meaning.{build_of, exec_of, generate_of, meaning_by, meaning_of, plain, run_of, segments_of};
 ghost use Rattle.cmm_command.specs.Reading.{Gives};
 
 use crate::command::Command;
@@ -11,6 +12,7 @@ use crate::fault::CommandFault;
 use crate::first_word::FirstWord;
 use crate::options::{self, CLIENT, FILE, IMAGE, SAVE, SNAPSHOT, UNIT};
 use crate::sorted;
+use clap::ArgMatches;
 use std::alloc::Global;
 
 /// What words ask for. They are those that a user typed after the program's name.
@@ -60,8 +62,15 @@ fn build<'a>(alloc: Global, words: &'a [String]) -> Result<Command<'a>, CommandF
     ensures { Gives plain (meaning_by first.Build (map string_bytes words.entry.now)) result }
 {
     let matches = sorted::sorted(options::build(alloc)?, words)?;
-    let units = sorted::files(alloc, &matches, UNIT)?;
-    let image = sorted::file(&matches, IMAGE)?;
+    build_in(alloc, &matches)
+}
+
+/// What words that `build` takes ask for.
+fn build_in<'a>(alloc: Global, matches: &ArgMatches<'a>) -> Result<Command<'a>, CommandFault>
+    ensures { Gives plain (build_of (rows_of (found_of matches.now))) result }
+{
+    let units = sorted::files(alloc, matches, UNIT)?;
+    let image = sorted::file(matches, IMAGE)?;
     Ok(Command::Build { units, image })
 }
 
@@ -71,10 +80,17 @@ fn run<'a>(alloc: Global, words: &'a [String]) -> Result<Command<'a>, CommandFau
     ensures { Gives plain (meaning_by first.Run (map string_bytes words.entry.now)) result }
 {
     let matches = sorted::sorted(options::run(alloc)?, words)?;
-    let image = sorted::file(&matches, IMAGE)?;
-    let client = sorted::file_if_given(&matches, CLIENT)?;
-    let limits = sorted::limits(&matches)?;
-    let save = sorted::file_if_given(&matches, SAVE)?;
+    run_in(&matches)
+}
+
+/// What words that `run` takes ask for.
+fn run_in<'a>(matches: &ArgMatches<'a>) -> Result<Command<'a>, CommandFault>
+    ensures { Gives plain (run_of (rows_of (found_of matches.now))) result }
+{
+    let image = sorted::file(matches, IMAGE)?;
+    let client = sorted::file_if_given(matches, CLIENT)?;
+    let limits = sorted::limits(matches)?;
+    let save = sorted::file_if_given(matches, SAVE)?;
     Ok(Command::Run {
         image,
         client,
@@ -89,9 +105,16 @@ fn exec<'a>(alloc: Global, words: &'a [String]) -> Result<Command<'a>, CommandFa
     ensures { Gives plain (meaning_by first.Exec (map string_bytes words.entry.now)) result }
 {
     let matches = sorted::sorted(options::exec(alloc)?, words)?;
-    let units = sorted::files(alloc, &matches, UNIT)?;
-    let client = sorted::file_if_given(&matches, CLIENT)?;
-    let limits = sorted::limits(&matches)?;
+    exec_in(alloc, &matches)
+}
+
+/// What words that `exec` takes ask for.
+fn exec_in<'a>(alloc: Global, matches: &ArgMatches<'a>) -> Result<Command<'a>, CommandFault>
+    ensures { Gives plain (exec_of (rows_of (found_of matches.now))) result }
+{
+    let units = sorted::files(alloc, matches, UNIT)?;
+    let client = sorted::file_if_given(matches, CLIENT)?;
+    let limits = sorted::limits(matches)?;
     Ok(Command::Exec {
         units,
         client,
@@ -114,7 +137,14 @@ fn generate<'a>(alloc: Global, words: &'a [String]) -> Result<Command<'a>, Comma
     ensures { Gives plain (meaning_by first.Generate (map string_bytes words.entry.now)) result }
 {
     let matches = sorted::sorted(options::generate(alloc)?, words)?;
-    let number = sorted::program_number(&matches)?;
+    generate_in(&matches)
+}
+
+/// What words that `gen` takes ask for.
+fn generate_in<'a>(matches: &ArgMatches<'a>) -> Result<Command<'a>, CommandFault>
+    ensures { Gives plain (generate_of (rows_of (found_of matches.now))) result }
+{
+    let number = sorted::program_number(matches)?;
     Ok(Command::Generate { number })
 }
 
@@ -142,6 +172,13 @@ fn segments<'a>(alloc: Global, words: &'a [String]) -> Result<Command<'a>, Comma
     ensures { Gives plain (meaning_by first.Segments (map string_bytes words.entry.now)) result }
 {
     let matches = sorted::sorted(options::segments(alloc)?, words)?;
-    let file = sorted::file(&matches, FILE)?;
+    segments_in(&matches)
+}
+
+/// What words that `segments` takes ask for.
+fn segments_in<'a>(matches: &ArgMatches<'a>) -> Result<Command<'a>, CommandFault>
+    ensures { Gives plain (segments_of (rows_of (found_of matches.now))) result }
+{
+    let file = sorted::file(matches, FILE)?;
     Ok(Command::Segments { file })
 }

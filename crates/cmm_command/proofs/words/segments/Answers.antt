@@ -1,5 +1,19 @@
+use Rattle.std.proofs.Common.{subst, map, string_bytes}
+use Rattle.clap.specs.Words.{App, found_of, rows_of}
+use Rattle.clap.specs.declared.parser.matches.ArgMatches.{ArgMatches}
+use Rattle.cmm_command.specs.Meaning.{segments_of, meaning_by, plain}
+use Rattle.cmm_command.specs.Options.{segments_app}
+use Rattle.cmm_command.specs.Reading.{◌>>=◌, Gives, sorted}
+use Rattle.cmm_command.proofs.Giving.{goes}
 use Rattle.cmm_command.proofs.Simple.{segments_simple}
 use Rattle.cmm_command.proofs.words.segments.Goals as goal
 
 pub sorted-requires : goal.sorted-requires
 sorted-requires c = segments_simple _ c.in_ok-segments.ensures
+
+pub returns : goal.returns
+unfolding meaning_by
+returns c =
+    let words = map string_bytes c.args.words.now in
+    subst (λ (app : App). Gives plain (sorted app words >>= segments_of) c.segments_in.result) c.in_ok-segments.ensures
+    (goes (λ (m : ArgMatches). rows_of (found_of m)) plain (sorted _ words) segments_of c.in_ok-matches.matches c.segments_in.result c.in_ok-matches.ensures c.segments_in.ensures)
