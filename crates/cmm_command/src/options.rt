@@ -1,7 +1,7 @@
 //! What each command takes after its first word, as a command of clap.
 
 ghost use Rattle.std.specs.Prelude.{◌≡◌, false, codes, IfOk};
-ghost use Rattle.clap.specs.Words.{app_of, new_app, rule_of};
+ghost use Rattle.clap.specs.Words.{app_of, new_app, rule_of, with_rule};
 ghost use Rattle.cmm_command.specs.Options as options;
 
 use clap::{Arg, Command};
@@ -38,86 +38,112 @@ pub const SAVE: &str = "save";
 pub fn build<'a>(alloc: Global) -> Result<Command<'a>, AllocError>
     ensures { IfOk result (λ c. app_of c ≡ options.build_app) }
 {
-    let command = helpless(alloc, "build")
-        .arg(units(alloc))?
-        .arg(output(alloc, IMAGE))?;
-    Ok(command)
+    let command = with_units(alloc, helpless(alloc, "build"))?;
+    with_output(alloc, command, IMAGE)
 }
 
 /// What `run` takes.
 pub fn run<'a>(alloc: Global) -> Result<Command<'a>, AllocError>
     ensures { IfOk result (λ c. app_of c ≡ options.run_app) }
 {
-    let command = helpless(alloc, "run").arg(operand(alloc, IMAGE))?;
+    let command = with_operand(alloc, helpless(alloc, "run"), IMAGE)?;
     let command = with_run_options(alloc, command)?;
-    let command = command.arg(option(alloc, SAVE))?;
-    Ok(command)
+    with_option(alloc, command, SAVE)
 }
 
 /// What `exec` takes.
 pub fn exec<'a>(alloc: Global) -> Result<Command<'a>, AllocError>
     ensures { IfOk result (λ c. app_of c ≡ options.exec_app) }
 {
-    let command = helpless(alloc, "exec").arg(units(alloc))?;
-    let command = with_run_options(alloc, command)?;
-    Ok(command)
+    let command = with_units(alloc, helpless(alloc, "exec"))?;
+    with_run_options(alloc, command)
 }
 
 /// What `walk` takes.
 pub fn walk<'a>(alloc: Global) -> Result<Command<'a>, AllocError>
     ensures { IfOk result (λ c. app_of c ≡ options.walk_app) }
 {
-    let command = helpless(alloc, "walk")
-        .arg(operand(alloc, IMAGE))?
-        .arg(operand(alloc, SNAPSHOT))?;
-    Ok(command)
+    let command = with_operand(alloc, helpless(alloc, "walk"), IMAGE)?;
+    with_operand(alloc, command, SNAPSHOT)
 }
 
 /// What `gen` takes.
 pub fn generate<'a>(alloc: Global) -> Result<Command<'a>, AllocError>
     ensures { IfOk result (λ c. app_of c ≡ options.generate_app) }
 {
-    let command = helpless(alloc, "gen").arg(operand(alloc, NUMBER))?;
-    Ok(command)
+    with_operand(alloc, helpless(alloc, "gen"), NUMBER)
 }
 
 /// What `elf` takes.
 pub fn elf<'a>(alloc: Global) -> Result<Command<'a>, AllocError>
     ensures { IfOk result (λ c. app_of c ≡ options.elf_app) }
 {
-    let command = helpless(alloc, "elf")
-        .arg(operand(alloc, IMAGE))?
-        .arg(output(alloc, FILE))?;
-    Ok(command)
+    let command = with_operand(alloc, helpless(alloc, "elf"), IMAGE)?;
+    with_output(alloc, command, FILE)
 }
 
 /// What `migrate` takes.
 pub fn migrate<'a>(alloc: Global) -> Result<Command<'a>, AllocError>
     ensures { IfOk result (λ c. app_of c ≡ options.migrate_app) }
 {
-    let command = helpless(alloc, "migrate")
-        .arg(operand(alloc, IMAGE))?
-        .arg(output(alloc, FILE))?;
-    Ok(command)
+    let command = with_operand(alloc, helpless(alloc, "migrate"), IMAGE)?;
+    with_output(alloc, command, FILE)
 }
 
 /// What `segments` takes.
 pub fn segments<'a>(alloc: Global) -> Result<Command<'a>, AllocError>
     ensures { IfOk result (λ c. app_of c ≡ options.segments_app) }
 {
-    let command = helpless(alloc, "segments").arg(operand(alloc, FILE))?;
-    Ok(command)
+    with_operand(alloc, helpless(alloc, "segments"), FILE)
 }
 
 /// Adds the options of a run: its client, its steps and its stack.
 fn with_run_options<'a>(alloc: Global, command: Command<'a>) -> Result<Command<'a>, AllocError>
     ensures { IfOk result (λ c. app_of c ≡ options.with_run_options (app_of command.entry)) }
 {
-    let command = command
-        .arg(option(alloc, CLIENT))?
-        .arg(option(alloc, STEPS))?
-        .arg(option(alloc, STACK))?;
-    Ok(command)
+    let command = with_option(alloc, command, CLIENT)?;
+    let command = with_option(alloc, command, STEPS)?;
+    with_option(alloc, command, STACK)
+}
+
+/// Adds the files of the units.
+fn with_units<'a>(alloc: Global, command: Command<'a>) -> Result<Command<'a>, AllocError>
+    ensures { IfOk result (λ c. app_of c ≡ with_rule (app_of command.entry) options.units) }
+{
+    command.arg(units(alloc))
+}
+
+/// Adds the file of this name that is written, after `-o`.
+fn with_output<'a>(
+    alloc: Global,
+    command: Command<'a>,
+    name: &'a str,
+) -> Result<Command<'a>, AllocError>
+    ensures { IfOk result (λ c. app_of c ≡ with_rule (app_of command.entry) (options.output name.entry.now)) }
+{
+    command.arg(output(alloc, name))
+}
+
+/// Adds an option of this name, which takes one value.
+fn with_option<'a>(
+    alloc: Global,
+    command: Command<'a>,
+    name: &'a str,
+) -> Result<Command<'a>, AllocError>
+    ensures { IfOk result (λ c. app_of c ≡ with_rule (app_of command.entry) (options.option name.entry.now)) }
+{
+    command.arg(option(alloc, name))
+}
+
+/// Adds a word that has to be there.
+fn with_operand<'a>(
+    alloc: Global,
+    command: Command<'a>,
+    name: &'a str,
+) -> Result<Command<'a>, AllocError>
+    ensures { IfOk result (λ c. app_of c ≡ with_rule (app_of command.entry) (options.operand name.entry.now)) }
+{
+    command.arg(operand(alloc, name))
 }
 
 /// A command that takes nothing yet, and has no flag for help.

@@ -123,7 +123,7 @@ fn exec_in<'a>(alloc: Global, matches: &ArgMatches<'a>) -> Result<Command<'a>, C
 }
 
 /// What words that begin with `walk` ask for.
-#[tactic(auto, using(crate::proofs::Simple::walk_simple), unfolding(crate::specs::Meaning::meaning_by))]
+#[tactic(auto, unfolding(crate::specs::Meaning::meaning_by))]
 fn walk<'a>(alloc: Global, words: &'a [String]) -> Result<Command<'a>, CommandFault>
     ensures { Gives plain (meaning_by first.Walk (map string_bytes words.entry.now)) result }
 {
@@ -149,7 +149,7 @@ fn generate_in<'a>(matches: &ArgMatches<'a>) -> Result<Command<'a>, CommandFault
 }
 
 /// What words that begin with `elf` ask for.
-#[tactic(auto, using(crate::proofs::Simple::elf_simple), unfolding(crate::specs::Meaning::meaning_by))]
+#[tactic(auto, unfolding(crate::specs::Meaning::meaning_by))]
 fn elf<'a>(alloc: Global, words: &'a [String]) -> Result<Command<'a>, CommandFault>
     ensures { Gives plain (meaning_by first.Elf (map string_bytes words.entry.now)) result }
 {
@@ -158,7 +158,7 @@ fn elf<'a>(alloc: Global, words: &'a [String]) -> Result<Command<'a>, CommandFau
 }
 
 /// What words that begin with `migrate` ask for.
-#[tactic(auto, using(crate::proofs::Simple::migrate_simple), unfolding(crate::specs::Meaning::meaning_by))]
+#[tactic(auto, unfolding(crate::specs::Meaning::meaning_by))]
 fn migrate<'a>(alloc: Global, words: &'a [String]) -> Result<Command<'a>, CommandFault>
     ensures { Gives plain (meaning_by first.Migrate (map string_bytes words.entry.now)) result }
 {

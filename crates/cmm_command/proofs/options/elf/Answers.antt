@@ -1,8 +1,9 @@
-use Rattle.cmm_command.proofs.Adding.{adds}
-use Rattle.cmm_command.specs.Options.{elf_app}
+use Rattle.std.proofs.Common.{codes}
+use Rattle.clap.specs.Words.{app_of}
+use Rattle.cmm_command.specs.Options.{elf_app, operand, output}
+use Rattle.cmm_command.proofs.Adding.{more, more_last}
 use Rattle.cmm_command.proofs.options.elf.Goals as goal
 
 pub returns : goal.returns
 unfolding elf_app
-returns c = adds _ _ _ _ _ c.in_ok-command.ensures c.output.ensures.own c.output.ensures.rule
-    (adds _ _ _ _ _ c.in_ok-arg.ensures c.operand.ensures.own c.operand.ensures.rule c.helpless.ensures)
+returns c = more_last c.with_output.result (app_of c.in_ok-command.command) _ (output (codes "file")) c.with_output.ensures (more _ (app_of c.helpless.result) _ (operand (codes "image")) c.in_ok-command.ensures c.helpless.ensures)

@@ -1,8 +1,9 @@
-use Rattle.std.proofs.Common.{refl}
-use Rattle.cmm_command.proofs.Adding.{adds}
+use Rattle.std.proofs.Common.{codes}
+use Rattle.clap.specs.Words.{app_of}
+use Rattle.cmm_command.specs.Options.{option}
+use Rattle.cmm_command.proofs.Adding.{more, more_last}
 use Rattle.cmm_command.proofs.options.with_run_options.Goals as goal
 
 pub returns : goal.returns
-returns c = adds _ _ _ _ _ c.in_ok-command.ensures c.option-3.ensures.own c.option-3.ensures.rule
-    (adds _ _ _ _ _ c.in_ok-arg-2.ensures c.option-2.ensures.own c.option-2.ensures.rule
-    (adds _ _ _ _ _ c.in_ok-arg.ensures c.option.ensures.own c.option.ensures.rule refl))
+returns c = more_last c.with_option-3.result (app_of c.in_ok-command-2.command) _ (option (codes "stack")) c.with_option-3.ensures
+    (more _ (app_of c.in_ok-command.command) _ (option (codes "steps")) c.in_ok-command-2.ensures c.in_ok-command.ensures)

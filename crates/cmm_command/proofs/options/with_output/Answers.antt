@@ -1,0 +1,5 @@
+use Rattle.cmm_command.proofs.Adding.{adds_last}
+use Rattle.cmm_command.proofs.options.with_output.Goals as goal
+
+pub returns : goal.returns
+returns c = adds_last _ _ _ c.arg.result c.arg.ensures c.output.ensures.own c.output.ensures.rule
