@@ -95,6 +95,8 @@ fn placed(
     ensures row { IfOk result (λ row. row ≡ placed_site (λ k. slice_index landings.now k) (value_at codes.now labels.now) address site) }
     ensures small { IfOk result HasSmallSpans }
 {
+    let unwinds = unwind_rows(alloc, site.unwinds.as_slice(), landings)?;
+    let spans = span_rows(alloc, site.spans.as_slice(), codes, labels)?;
     Ok(SiteRow {
         return_address: address,
         procedure: site.procedure,
@@ -104,10 +106,10 @@ fn placed(
         yield_values: site.yield_values,
         results: site.results,
         returns: site.returns,
-        unwinds: unwind_rows(alloc, site.unwinds.as_slice(), landings)?,
+        unwinds,
         cuts: site.cuts,
         variables: site.variables,
-        spans: span_rows(alloc, site.spans.as_slice(), codes, labels)?,
+        spans,
     })
 }
 
