@@ -1,3 +1,4 @@
+mod Ending
 mod Sums
 mod Places
 mod Constants

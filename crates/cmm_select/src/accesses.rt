@@ -72,8 +72,7 @@ pub(crate) fn load_word(asm: &mut Asm, width: Width, aligned: u32) -> Result<(),
     let access = access_of(width, aligned);
     let count = (width.bytes() / access.bytes()) as u32;
     gather(asm, access, access.bytes() as u32, count - 1)?;
-    join(asm, access, 0, FIRST_SCRATCH)?;
-    Ok(())
+    join(asm, access, 0, FIRST_SCRATCH)
 }
 
 /// Stores the low bytes of register 7, as many as a width has, at the address in register 5, which is a multiple of `aligned` bytes.
@@ -82,8 +81,7 @@ pub(crate) fn store_word(asm: &mut Asm, width: Width, aligned: u32) -> Result<()
     ensures labels { asm.new.labels ≡ asm.old.labels }
 {
     let access = access_of(width, aligned);
-    scatter(asm, access, 0, (width.bytes() / access.bytes()) as u32)?;
-    Ok(())
+    scatter(asm, access, 0, (width.bytes() / access.bytes()) as u32)
 }
 
 /// Gives register 7 a count of words of the width of an access, from an offset on, the lowest first.
@@ -117,8 +115,7 @@ fn join(asm: &mut Asm, access: Width, offset: u32, rd: u8) -> Result<(), AllocEr
         rd,
         rs1: SECOND_SCRATCH,
         rs2: HELPER,
-    })?;
-    Ok(())
+    })
 }
 
 /// Stores register 7 as a count of words of the width of an access, from an offset on, the lowest first.

@@ -34,14 +34,10 @@ pub fn assign_copy(asm: &mut Asm, from: &Operand, to: &Destination) -> Result<()
     ensures labels { asm.new.labels ≡ asm.old.labels }
 {
     match home_of(from) {
-        Some(register) => {
-            put(asm, register, to)?;
-            Ok(())
-        }
+        Some(register) => put(asm, register, to),
         None => {
             bring_operand(asm, from, target(to))?;
-            finish(asm, to)?;
-            Ok(())
+            finish(asm, to)
         }
     }
 }
@@ -54,8 +50,7 @@ pub fn assign_global(asm: &mut Asm, from: Label, to: &Destination) -> Result<(),
     ensures labels { asm.new.labels ≡ asm.old.labels }
 {
     read_global(asm, from, target(to))?;
-    finish(asm, to)?;
-    Ok(())
+    finish(asm, to)
 }
 
 /// Assigns what an operator gives on a word of a width.
@@ -73,8 +68,7 @@ pub fn assign_unary(
 {
     let source = locate(asm, operand, FIRST_SCRATCH)?;
     operate_on_one(asm, operator, width, target(to), source)?;
-    finish(asm, to)?;
-    Ok(())
+    finish(asm, to)
 }
 
 /// Assigns a word of the width `from` with its sign at another width.
@@ -91,17 +85,13 @@ pub fn assign_extended(
     ensures labels { asm.new.labels ≡ asm.old.labels }
 {
     match from {
-        Width::W64 => {
-            assign_low(asm, from, width, operand, to)?;
-            Ok(())
-        }
+        Width::W64 => assign_low(asm, from, width, operand, to),
         _ => {
             let source = locate(asm, operand, FIRST_SCRATCH)?;
             let rd = target(to);
             sign(asm, from, rd, source)?;
             narrow(asm, width, rd)?;
-            finish(asm, to)?;
-            Ok(())
+            finish(asm, to)
         }
     }
 }
@@ -120,15 +110,11 @@ pub fn assign_low(
     ensures labels { asm.new.labels ≡ asm.old.labels }
 {
     match width {
-        Width::W64 => {
-            assign_copy(asm, operand, to)?;
-            Ok(())
-        }
+        Width::W64 => assign_copy(asm, operand, to),
         _ => {
             let source = locate(asm, operand, FIRST_SCRATCH)?;
             cut(asm, width, target(to), source)?;
-            finish(asm, to)?;
-            Ok(())
+            finish(asm, to)
         }
     }
 }
@@ -149,17 +135,14 @@ pub fn assign_binary(
     ensures labels { asm.new.labels ≡ asm.old.labels }
 {
     if let Some(number) = small(operator, right) {
-        assign_small(asm, operator, width, left, number, to)?;
-        return Ok(());
+        return assign_small(asm, operator, width, left, number, to);
     }
     if is_plain(operator) {
-        assign_plain(asm, operator, width, left, right, to)?;
-        return Ok(());
+        return assign_plain(asm, operator, width, left, right, to);
     }
     bring_both(asm, left, right)?;
     operate(asm, operator, width)?;
-    put(asm, FIRST_SCRATCH, to)?;
-    Ok(())
+    put(asm, FIRST_SCRATCH, to)
 }
 
 /// Assigns what an operator gives on a word and a number that an instruction of it holds.
@@ -179,8 +162,7 @@ fn assign_small(
 {
     let source = locate(asm, left, FIRST_SCRATCH)?;
     operate_with(asm, operator, width, target(to), source, number)?;
-    finish(asm, to)?;
-    Ok(())
+    finish(asm, to)
 }
 
 /// Assigns what an operator gives that one instruction does on words as they are.
@@ -201,8 +183,7 @@ fn assign_plain(
 {
     let from = locate_both(asm, left, right)?;
     plain(asm, operator, width, target(to), from.first, from.second)?;
-    finish(asm, to)?;
-    Ok(())
+    finish(asm, to)
 }
 
 /// Assigns 1 where a comparison holds of two words of a width, and else 0.
@@ -221,13 +202,11 @@ pub fn assign_comparison(
     ensures labels { asm.new.labels ≡ asm.old.labels }
 {
     if let Some(number) = compared(width, right) {
-        assign_small_comparison(asm, comparison, width, left, number, to)?;
-        return Ok(());
+        return assign_small_comparison(asm, comparison, width, left, number, to);
     }
     let from = ready(asm, comparison, width, left, right)?;
     compare(asm, comparison, target(to), from.first, from.second)?;
-    finish(asm, to)?;
-    Ok(())
+    finish(asm, to)
 }
 
 /// Assigns 1 where a comparison holds of a word of a width and a number that its instructions hold, and else 0.
@@ -247,6 +226,5 @@ fn assign_small_comparison(
 {
     let source = locate(asm, left, FIRST_SCRATCH)?;
     compare_with(asm, comparison, width, target(to), source, number)?;
-    finish(asm, to)?;
-    Ok(())
+    finish(asm, to)
 }

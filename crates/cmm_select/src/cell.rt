@@ -21,8 +21,7 @@ pub(crate) fn load_cell(asm: &mut Asm, width: Width, rd: u8, base: u8) -> Result
     ensures loads { OnOk result (Adds 1 asm.old.parts asm.new.parts (Leads 1 (λ m s. IsCell width m (s.registers base)) (λ s t. Makes rd (IsLoaded width s.memory (s.registers base)) s t))) }
     ensures labels { asm.new.labels ≡ asm.old.labels }
 {
-    asm.emit(load_part(width, rd, base, 0))?;
-    Ok(())
+    asm.emit(load_part(width, rd, base, 0))
 }
 
 /// Stores the low bytes of register `from`, as many as a width has, at the address in register `base`. An error is want of memory, and nothing
@@ -33,8 +32,7 @@ pub(crate) fn store_cell(asm: &mut Asm, width: Width, base: u8, from: u8) -> Res
     ensures stores { OnOk result (Adds 1 asm.old.parts asm.new.parts (Leads 1 (λ m s. IsCell width m (s.registers base)) (λ s t. Writes (s.registers base) (bytes width) (s.registers from) s t))) }
     ensures labels { asm.new.labels ≡ asm.old.labels }
 {
-    asm.emit(store_part(width, base, from, 0))?;
-    Ok(())
+    asm.emit(store_part(width, base, from, 0))
 }
 
 /// The instruction that loads a word of a width with zeros above it, at an offset from the address in register `base`.

@@ -82,14 +82,8 @@ pub(crate) fn branch(
     ensures labels { asm.new.labels ≡ asm.old.labels }
 {
     match turned(comparison) {
-        Some(other) => {
-            asm.branch(other, second, first, to)?;
-            Ok(())
-        }
-        None => {
-            asm.branch(comparison, first, second, to)?;
-            Ok(())
-        }
+        Some(other) => asm.branch(other, second, first, to),
+        None => asm.branch(comparison, first, second, to),
     }
 }
 
@@ -127,13 +121,9 @@ pub(crate) fn compare(
                 rd,
                 rs1: rd,
                 imm: 1,
-            })?;
-            Ok(())
+            })
         }
-        None => {
-            compare_directly(asm, comparison, rd, first, second)?;
-            Ok(())
-        }
+        None => compare_directly(asm, comparison, rd, first, second),
     }
 }
 
@@ -167,14 +157,8 @@ fn compare_directly(
     ensures labels { asm.new.labels ≡ asm.old.labels }
 {
     match comparison {
-        Cmp::Eq => {
-            equal(asm, rd, first, second)?;
-            Ok(())
-        }
-        _ => {
-            asm.emit(less(comparison, rd, first, second))?;
-            Ok(())
-        }
+        Cmp::Eq => equal(asm, rd, first, second),
+        _ => asm.emit(less(comparison, rd, first, second)),
     }
 }
 
@@ -191,8 +175,7 @@ fn equal(asm: &mut Asm, rd: u8, rs1: u8, rs2: u8) -> Result<(), AllocError>
         rd,
         rs1: rd,
         imm: 1,
-    })?;
-    Ok(())
+    })
 }
 
 /// The instruction that tells whether one word is less than the other.

@@ -34,14 +34,8 @@ pub(crate) fn put(asm: &mut Asm, register: u8, to: &Destination) -> Result<(), A
     ensures labels { asm.new.labels ≡ asm.old.labels }
 {
     match *to {
-        Destination::Place(place) => {
-            write(asm, register, place)?;
-            Ok(())
-        }
-        Destination::Register(of) => {
-            put_global(asm, register, of)?;
-            Ok(())
-        }
+        Destination::Place(place) => write(asm, register, place),
+        Destination::Register(of) => put_global(asm, register, of),
     }
 }
 
@@ -58,8 +52,7 @@ pub fn put_global(asm: &mut Asm, register: u8, of: Label) -> Result<(), AllocErr
         rs1: HELPER,
         rs2: register,
         imm: 0,
-    })?;
-    Ok(())
+    })
 }
 
 /// Gives register `rd` what a global register has.
@@ -74,8 +67,7 @@ pub(crate) fn read_global(asm: &mut Asm, of: Label, rd: u8) -> Result<(), AllocE
         rd,
         rs1: rd,
         imm: 0,
-    })?;
-    Ok(())
+    })
 }
 
 /// Gives register `rd` the address of a global register.
@@ -91,6 +83,5 @@ fn find_global(asm: &mut Asm, of: Label, rd: u8) -> Result<(), AllocError>
         rd,
         rs1: rd,
         rs2: REGION,
-    })?;
-    Ok(())
+    })
 }

@@ -36,8 +36,7 @@ pub fn decide(
     ensures labels { asm.new.labels ≡ asm.old.labels }
 {
     let from = ready(asm, comparison, width, left, right)?;
-    branch(asm, comparison, from.first, from.second, to)?;
-    Ok(())
+    branch(asm, comparison, from.first, from.second, to)
 }
 
 /// Goes to a label. An error is want of memory, and nothing is changed.
@@ -46,8 +45,7 @@ pub fn go_to(asm: &mut Asm, to: Label) -> Result<(), AllocError>
     ensures turns { OnOk result (Adds 2 asm.old.parts asm.new.parts (λ x from on. Turns 2 Always (λ s. x.at to.number) Keeps x from)) }
     ensures labels { asm.new.labels ≡ asm.old.labels }
 {
-    asm.jump(to)?;
-    Ok(())
+    asm.jump(to)
 }
 
 /// Goes on, by one instruction that changes a scratch register alone. An error is want of memory, and nothing is changed.
@@ -55,8 +53,7 @@ pub fn go_on(asm: &mut Asm) -> Result<(), AllocError>
     ensures keeps { OnOk result (Adds 1 asm.old.parts asm.new.parts (Leads 1 Always Keeps)) }
     ensures labels { asm.new.labels ≡ asm.old.labels }
 {
-    asm.emit(add_to(FIRST_SCRATCH, ZERO, 0))?;
-    Ok(())
+    asm.emit(add_to(FIRST_SCRATCH, ZERO, 0))
 }
 
 /// Ends a run that has gone wrong: a breakpoint, at which the machine traps. An error is want of memory, and nothing is changed.
@@ -64,6 +61,5 @@ pub fn stop(asm: &mut Asm) -> Result<(), AllocError>
     ensures traps { OnOk result (Adds 1 asm.old.parts asm.new.parts (λ x from to. (s : State) → s.pc ≡ from → instruction_step x.map s ≡ Traps Breakpoint)) }
     ensures labels { asm.new.labels ≡ asm.old.labels }
 {
-    asm.emit(Instr::Ebreak)?;
-    Ok(())
+    asm.emit(Instr::Ebreak)
 }

@@ -27,8 +27,7 @@ pub fn put_byte(asm: &mut Asm, value: &Operand) -> Result<(), AllocError>
     bring_operand(asm, value, FIRST_SCRATCH)?;
     asm.emit(copy(REQUEST_VALUE, FIRST_SCRATCH))?;
     asm.emit(choose(Request::PutByte(0)))?;
-    asm.emit(Instr::Ecall)?;
-    Ok(())
+    asm.emit(Instr::Ecall)
 }
 
 /// Takes the input's next byte, or all ones at its end.
@@ -39,8 +38,7 @@ pub fn get_byte(asm: &mut Asm, to: &Destination) -> Result<(), AllocError>
 {
     asm.emit(choose(Request::GetByte))?;
     asm.emit(Instr::Ecall)?;
-    put(asm, REQUEST_VALUE, to)?;
-    Ok(())
+    put(asm, REQUEST_VALUE, to)
 }
 
 /// The instruction that chooses a request by its number. The value that goes with the request says nothing here.

@@ -73,12 +73,10 @@ pub(crate) fn operate_with(
     if heeds_sign(operator, width) {
         sign(asm, width, rd, first)?;
         asm.emit(instruction(operator, rd, rd, number))?;
-        narrow(asm, width, rd)?;
-        return Ok(());
+        return narrow(asm, width, rd);
     }
     asm.emit(instruction(operator, rd, first, number))?;
-    narrow(asm, width, rd)?;
-    Ok(())
+    narrow(asm, width, rd)
 }
 
 /// Whether an operator at a width is done on a word with its sign.
@@ -122,16 +120,14 @@ pub(crate) fn measure(asm: &mut Asm, first: u64) -> Result<(), AllocError>
     ensures labels { asm.new.labels ≡ asm.old.labels }
 {
     if first < u64::from(NEAR) {
-        asm.emit(instruction(Op2::Sub, SECOND_SCRATCH, FIRST_SCRATCH, first))?;
-        return Ok(());
+        return asm.emit(instruction(Op2::Sub, SECOND_SCRATCH, FIRST_SCRATCH, first));
     }
     load_constant(asm, first, SECOND_SCRATCH)?;
     asm.emit(Instr::Sub {
         rd: SECOND_SCRATCH,
         rs1: FIRST_SCRATCH,
         rs2: SECOND_SCRATCH,
-    })?;
-    Ok(())
+    })
 }
 
 /// Numbers below this are held by the instructions of a comparison at a width, with the number behind each; as words they have no sign.
@@ -180,11 +176,9 @@ pub(crate) fn compare_with(
     wide_comparisons();
     if needs_signs(comparison, width) {
         sign(asm, width, rd, first)?;
-        compare_wide(asm, comparison, rd, rd, number)?;
-        return Ok(());
+        return compare_wide(asm, comparison, rd, rd, number);
     }
-    compare_wide(asm, comparison, rd, first, number)?;
-    Ok(())
+    compare_wide(asm, comparison, rd, first, number)
 }
 
 /// The same at 64 bits. That a word is greater than 0 one instruction tells of two registers.
@@ -202,15 +196,11 @@ fn compare_wide(
     ensures labels { asm.new.labels ≡ asm.old.labels }
 {
     if is_positive(comparison, number) {
-        compare(asm, comparison, rd, first, ZERO)?;
-        return Ok(());
+        return compare(asm, comparison, rd, first, ZERO);
     }
     asm.emit(first_comparing(comparison, rd, first, number))?;
     match second_comparing(comparison, rd) {
-        Some(second) => {
-            asm.emit(second)?;
-            Ok(())
-        }
+        Some(second) => asm.emit(second),
         None => Ok(()),
     }
 }

@@ -104,6 +104,5 @@ pub(crate) fn finish(asm: &mut Asm, to: &Destination) -> Result<(), AllocError>
     if target(to) != FIRST_SCRATCH {
         return Ok(());
     }
-    put(asm, FIRST_SCRATCH, to)?;
-    Ok(())
+    put(asm, FIRST_SCRATCH, to)
 }

@@ -40,8 +40,7 @@ pub(crate) fn jump_by_table(asm: &mut Asm, end: u64, to: &[Label]) -> Result<(),
         rs2: HELPER,
     })?;
     asm.emit(jump_past(count))?;
-    asm.table(to)?;
-    Ok(())
+    asm.table(to)
 }
 
 /// Leaves register 7 as it is where it is one of the last `count` numbers of 64 bits, and makes it 0 elsewhere.
@@ -61,8 +60,7 @@ fn mask_outside(asm: &mut Asm, count: usize) -> Result<(), AllocError>
         rd: SECOND_SCRATCH,
         rs1: SECOND_SCRATCH,
         rs2: HELPER,
-    })?;
-    Ok(())
+    })
 }
 
 /// Gives register 6 whether register 7 is below the last `count` numbers of 64 bits.

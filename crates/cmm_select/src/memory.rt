@@ -32,13 +32,11 @@ pub fn assign_loaded(
     if is_whole(width, aligned) {
         let base = locate(asm, address, FIRST_SCRATCH)?;
         load_cell(asm, width, target(to), base)?;
-        finish(asm, to)?;
-        return Ok(());
+        return finish(asm, to);
     }
     bring_operand(asm, address, FIRST_SCRATCH)?;
     load_word(asm, width, aligned)?;
-    put(asm, FIRST_SCRATCH, to)?;
-    Ok(())
+    put(asm, FIRST_SCRATCH, to)
 }
 
 /// Stores the low bytes of an operand, as many as a width has, at an address that is a multiple of `aligned` bytes.
@@ -56,10 +54,8 @@ pub fn store(
 {
     if is_whole(width, aligned) {
         let pair = locate_both(asm, address, value)?;
-        store_cell(asm, width, pair.first, pair.second)?;
-        return Ok(());
+        return store_cell(asm, width, pair.first, pair.second);
     }
     bring_both(asm, address, value)?;
-    store_word(asm, width, aligned)?;
-    Ok(())
+    store_word(asm, width, aligned)
 }

@@ -29,11 +29,9 @@ pub fn load_constant(asm: &mut Asm, number: u64, rd: u8) -> Result<(), AllocErro
     ensures labels { asm.new.labels ≡ asm.old.labels }
 {
     if number <= SHORT {
-        load_rounded(asm, number, rd, 1)?;
-        return Ok(());
+        return load_rounded(asm, number, rd, 1);
     }
-    load_rounded(asm, number, rd, 3)?;
-    Ok(())
+    load_rounded(asm, number, rd, 3)
 }
 
 /// Gives register `rd` a number, in pieces of 12 bits from the highest on, which are immediates with a sign: what is left of the number is
@@ -68,12 +66,10 @@ pub fn load_low(asm: &mut Asm, number: u64, rd: u8) -> Result<(), AllocError>
     ensures labels { asm.new.labels ≡ asm.old.labels }
 {
     if number < u64::from(NEAR) {
-        asm.emit(add_to(rd, ZERO, number as u32))?;
-        return Ok(());
+        return asm.emit(add_to(rd, ZERO, number as u32));
     }
     asm.emit(upper(rd, rounded(number) as u32))?;
-    asm.emit(add_rest(rd, number))?;
-    Ok(())
+    asm.emit(add_rest(rd, number))
 }
 
 /// How many times 4,096 a number is, rounded.

@@ -31,14 +31,8 @@ pub fn bring_operand(asm: &mut Asm, from: &Operand, rd: u8) -> Result<(), AllocE
     ensures labels { asm.new.labels ≡ asm.old.labels }
 {
     match *from {
-        Operand::Held(source) => {
-            bring(asm, source, rd)?;
-            Ok(())
-        }
-        Operand::Symbol { of, plus } => {
-            bring_symbol(asm, of, plus, rd)?;
-            Ok(())
-        }
+        Operand::Held(source) => bring(asm, source, rd),
+        Operand::Symbol { of, plus } => bring_symbol(asm, of, plus, rd),
     }
 }
 
@@ -52,8 +46,7 @@ fn bring_symbol(asm: &mut Asm, of: Label, plus: u64, rd: u8) -> Result<(), Alloc
     ensures labels { asm.new.labels ≡ asm.old.labels }
 {
     if plus == 0 {
-        asm.address(rd, of)?;
-        return Ok(());
+        return asm.address(rd, of);
     }
     load_constant(asm, plus, HELPER)?;
     asm.address(rd, of)?;
@@ -61,8 +54,7 @@ fn bring_symbol(asm: &mut Asm, of: Label, plus: u64, rd: u8) -> Result<(), Alloc
         rd,
         rs1: rd,
         rs2: HELPER,
-    })?;
-    Ok(())
+    })
 }
 
 /// Brings an operand into register 5 and another into register 7.
@@ -73,6 +65,5 @@ pub fn bring_both(asm: &mut Asm, left: &Operand, right: &Operand) -> Result<(), 
     ensures labels { asm.new.labels ≡ asm.old.labels }
 {
     bring_operand(asm, left, FIRST_SCRATCH)?;
-    bring_operand(asm, right, SECOND_SCRATCH)?;
-    Ok(())
+    bring_operand(asm, right, SECOND_SCRATCH)
 }

@@ -29,10 +29,7 @@ pub(crate) fn narrow(asm: &mut Asm, width: Width, rd: u8) -> Result<(), AllocErr
 {
     match width {
         Width::W64 => Ok(()),
-        _ => {
-            cut(asm, width, rd, rd)?;
-            Ok(())
-        }
+        _ => cut(asm, width, rd, rd),
     }
 }
 
@@ -44,22 +41,10 @@ pub(crate) fn cut(asm: &mut Asm, width: Width, rd: u8, from: u8) -> Result<(), A
     ensures labels { asm.new.labels ≡ asm.old.labels }
 {
     match width {
-        Width::W8 => {
-            shift_out(asm, rd, from, 56)?;
-            Ok(())
-        }
-        Width::W16 => {
-            shift_out(asm, rd, from, 48)?;
-            Ok(())
-        }
-        Width::W32 => {
-            shift_out(asm, rd, from, 32)?;
-            Ok(())
-        }
-        Width::W64 => {
-            asm.emit(copy(rd, from))?;
-            Ok(())
-        }
+        Width::W8 => shift_out(asm, rd, from, 56),
+        Width::W16 => shift_out(asm, rd, from, 48),
+        Width::W32 => shift_out(asm, rd, from, 32),
+        Width::W64 => asm.emit(copy(rd, from)),
     }
 }
 
@@ -71,10 +56,7 @@ pub(crate) fn extend(asm: &mut Asm, width: Width, rd: u8) -> Result<(), AllocErr
 {
     match width {
         Width::W64 => Ok(()),
-        _ => {
-            sign(asm, width, rd, rd)?;
-            Ok(())
-        }
+        _ => sign(asm, width, rd, rd),
     }
 }
 
@@ -86,22 +68,10 @@ pub(crate) fn sign(asm: &mut Asm, width: Width, rd: u8, from: u8) -> Result<(), 
     ensures labels { asm.new.labels ≡ asm.old.labels }
 {
     match width {
-        Width::W8 => {
-            shift_back(asm, rd, from, 56)?;
-            Ok(())
-        }
-        Width::W16 => {
-            shift_back(asm, rd, from, 48)?;
-            Ok(())
-        }
-        Width::W32 => {
-            shift_back(asm, rd, from, 32)?;
-            Ok(())
-        }
-        Width::W64 => {
-            asm.emit(copy(rd, from))?;
-            Ok(())
-        }
+        Width::W8 => shift_back(asm, rd, from, 56),
+        Width::W16 => shift_back(asm, rd, from, 48),
+        Width::W32 => shift_back(asm, rd, from, 32),
+        Width::W64 => asm.emit(copy(rd, from)),
     }
 }
 
@@ -114,8 +84,7 @@ fn shift_out(asm: &mut Asm, rd: u8, from: u8, amount: u8) -> Result<(), AllocErr
     ensures labels { asm.new.labels ≡ asm.old.labels }
 {
     asm.emit(shift_left(rd, from, amount))?;
-    asm.emit(shift_right(rd, amount))?;
-    Ok(())
+    asm.emit(shift_right(rd, amount))
 }
 
 /// Shifts what register `from` has to the left, and back with copies of the top bit.
@@ -127,8 +96,7 @@ fn shift_back(asm: &mut Asm, rd: u8, from: u8, amount: u8) -> Result<(), AllocEr
     ensures labels { asm.new.labels ≡ asm.old.labels }
 {
     asm.emit(shift_left(rd, from, amount))?;
-    asm.emit(shift_right_signed(rd, amount))?;
-    Ok(())
+    asm.emit(shift_right_signed(rd, amount))
 }
 
 fn shift_left(rd: u8, rs1: u8, amount: u8) -> Instr
@@ -200,37 +168,15 @@ pub fn operate(asm: &mut Asm, operator: Op2, width: Width) -> Result<(), AllocEr
     match method_for(operator) {
         Method::Plain => {
             let (rd, first, second) = (FIRST_SCRATCH, FIRST_SCRATCH, SECOND_SCRATCH);
-            plain(asm, operator, width, rd, first, second)?;
-            Ok(())
+            plain(asm, operator, width, rd, first, second)
         }
-        Method::Shift => {
-            shift(asm, operator, width)?;
-            Ok(())
-        }
-        Method::Copies => {
-            shift_signed(asm, width)?;
-            Ok(())
-        }
-        Method::Left => {
-            rotate_left(asm, width)?;
-            Ok(())
-        }
-        Method::Right => {
-            rotate_right(asm, width)?;
-            Ok(())
-        }
-        Method::Signed => {
-            signed(asm, operator, width)?;
-            Ok(())
-        }
-        Method::Quotient => {
-            divide_down(asm, width)?;
-            Ok(())
-        }
-        Method::Remainder => {
-            modulo_down(asm, width)?;
-            Ok(())
-        }
+        Method::Shift => shift(asm, operator, width),
+        Method::Copies => shift_signed(asm, width),
+        Method::Left => rotate_left(asm, width),
+        Method::Right => rotate_right(asm, width),
+        Method::Signed => signed(asm, operator, width),
+        Method::Quotient => divide_down(asm, width),
+        Method::Remainder => modulo_down(asm, width),
     }
 }
 
@@ -275,8 +221,7 @@ pub(crate) fn plain(
 {
     wide_operators();
     asm.emit(instruction(operator, rd, first, second))?;
-    narrow(asm, width, rd)?;
-    Ok(())
+    narrow(asm, width, rd)
 }
 
 /// A shift of 64 bits, cleared where the count is not below 64, and a cut.
@@ -297,8 +242,7 @@ fn shift(asm: &mut Asm, operator: Op2, width: Width) -> Result<(), AllocError>
         rs1: FIRST_SCRATCH,
         rs2: HELPER,
     })?;
-    narrow(asm, width, FIRST_SCRATCH)?;
-    Ok(())
+    narrow(asm, width, FIRST_SCRATCH)
 }
 
 /// Both words get their sign, and then the operator of 64 bits in one instruction, and a cut.
@@ -311,8 +255,7 @@ fn signed(asm: &mut Asm, operator: Op2, width: Width) -> Result<(), AllocError>
     extend(asm, width, FIRST_SCRATCH)?;
     extend(asm, width, SECOND_SCRATCH)?;
     asm.emit(instruction(operator, FIRST_SCRATCH, FIRST_SCRATCH, SECOND_SCRATCH))?;
-    narrow(asm, width, FIRST_SCRATCH)?;
-    Ok(())
+    narrow(asm, width, FIRST_SCRATCH)
 }
 
 /// The instruction of an operator of 64 bits on two registers.
@@ -347,8 +290,7 @@ fn shift_signed(asm: &mut Asm, width: Width) -> Result<(), AllocError>
     wide_operators();
     extend(asm, width, FIRST_SCRATCH)?;
     shift_copies(asm)?;
-    narrow(asm, width, FIRST_SCRATCH)?;
-    Ok(())
+    narrow(asm, width, FIRST_SCRATCH)
 }
 
 /// The shift to the right of 64 bits that copies the top bit.
@@ -375,8 +317,7 @@ fn shift_copies(asm: &mut Asm) -> Result<(), AllocError>
         rd: FIRST_SCRATCH,
         rs1: FIRST_SCRATCH,
         rs2: SECOND_SCRATCH,
-    })?;
-    Ok(())
+    })
 }
 
 /// A quotient rounded down, of signed words: that toward zero, less by 1 where it was rounded up, and a cut.
@@ -388,8 +329,7 @@ fn divide_down(asm: &mut Asm, width: Width) -> Result<(), AllocError>
     extend(asm, width, FIRST_SCRATCH)?;
     extend(asm, width, SECOND_SCRATCH)?;
     quotient_down(asm)?;
-    narrow(asm, width, FIRST_SCRATCH)?;
-    Ok(())
+    narrow(asm, width, FIRST_SCRATCH)
 }
 
 /// The quotient of 64 bits, rounded down.
@@ -422,8 +362,7 @@ fn quotient_down(asm: &mut Asm) -> Result<(), AllocError>
         rd: FIRST_SCRATCH,
         rs1: FIRST_SCRATCH,
         rs2: HELPER,
-    })?;
-    Ok(())
+    })
 }
 
 /// The remainder of such a quotient: that of the one toward zero, more by the divisor where that was rounded up, and a cut.
@@ -435,8 +374,7 @@ fn modulo_down(asm: &mut Asm, width: Width) -> Result<(), AllocError>
     extend(asm, width, FIRST_SCRATCH)?;
     extend(asm, width, SECOND_SCRATCH)?;
     remainder_down(asm)?;
-    narrow(asm, width, FIRST_SCRATCH)?;
-    Ok(())
+    narrow(asm, width, FIRST_SCRATCH)
 }
 
 /// The remainder of 64 bits, with the sign of the divisor.
@@ -469,8 +407,7 @@ fn remainder_down(asm: &mut Asm) -> Result<(), AllocError>
         rd: FIRST_SCRATCH,
         rs1: FIRST_SCRATCH,
         rs2: HELPER,
-    })?;
-    Ok(())
+    })
 }
 
 /// A rotation to the left: a shift by the count and one the other way by what it leaves of the width, and a cut.
@@ -501,8 +438,7 @@ fn rotate_left(asm: &mut Asm, width: Width) -> Result<(), AllocError>
         rs1: HELPER,
         rs2: FIRST_SCRATCH,
     })?;
-    narrow(asm, width, FIRST_SCRATCH)?;
-    Ok(())
+    narrow(asm, width, FIRST_SCRATCH)
 }
 
 /// A rotation to the right, with the two shifts turned.
@@ -533,8 +469,7 @@ fn rotate_right(asm: &mut Asm, width: Width) -> Result<(), AllocError>
         rs1: FIRST_SCRATCH,
         rs2: HELPER,
     })?;
-    narrow(asm, width, FIRST_SCRATCH)?;
-    Ok(())
+    narrow(asm, width, FIRST_SCRATCH)
 }
 
 /// The instruction that takes the count of a rotation modulo the width.

@@ -22,18 +22,9 @@ pub fn read(asm: &mut Asm, from: Location, rd: u8) -> Result<(), AllocError>
     ensures labels { asm.new.labels ≡ asm.old.labels }
 {
     match from {
-        Location::Slot(offset) => {
-            restore(asm, rd, offset)?;
-            Ok(())
-        }
-        Location::Saved(register) => {
-            asm.emit(copy(rd, register))?;
-            Ok(())
-        }
-        Location::Temp(register) => {
-            asm.emit(copy(rd, register))?;
-            Ok(())
-        }
+        Location::Slot(offset) => restore(asm, rd, offset),
+        Location::Saved(register) => asm.emit(copy(rd, register)),
+        Location::Temp(register) => asm.emit(copy(rd, register)),
     }
 }
 
@@ -46,18 +37,9 @@ pub fn write(asm: &mut Asm, register: u8, to: Location) -> Result<(), AllocError
     ensures labels { asm.new.labels ≡ asm.old.labels }
 {
     match to {
-        Location::Slot(offset) => {
-            save(asm, register, offset)?;
-            Ok(())
-        }
-        Location::Saved(kept) => {
-            asm.emit(copy(kept, register))?;
-            Ok(())
-        }
-        Location::Temp(other) => {
-            asm.emit(copy(other, register))?;
-            Ok(())
-        }
+        Location::Slot(offset) => save(asm, register, offset),
+        Location::Saved(kept) => asm.emit(copy(kept, register)),
+        Location::Temp(other) => asm.emit(copy(other, register)),
     }
 }
 

@@ -37,13 +37,11 @@ fn branch_in_span(asm: &mut Asm, span: &Span) -> Result<(), AllocError>
     }
     if to == from {
         load_constant(asm, from, SECOND_SCRATCH)?;
-        asm.branch(Cmp::Eq, FIRST_SCRATCH, SECOND_SCRATCH, label)?;
-        return Ok(());
+        return asm.branch(Cmp::Eq, FIRST_SCRATCH, SECOND_SCRATCH, label);
     }
     measure(asm, from)?;
     load_constant(asm, to - from, HELPER)?;
-    asm.branch(Cmp::Geu, HELPER, SECOND_SCRATCH, label)?;
-    Ok(())
+    asm.branch(Cmp::Geu, HELPER, SECOND_SCRATCH, label)
 }
 
 /// Goes to the label of the first span that has the value in register 5, by comparing it with each.
@@ -81,8 +79,7 @@ fn jump_in_spans(asm: &mut Asm, spans: &[Span], end: u64) -> Result<(), AllocErr
     ensures labels { asm.new.labels ≡ asm.old.labels }
 {
     let labels = labels_of(asm.alloc(), spans)?;
-    jump_by_table(asm, end, &labels)?;
-    Ok(())
+    jump_by_table(asm, end, &labels)
 }
 
 /// Goes to a label where the value in register 5 is a number or above it.
@@ -92,8 +89,7 @@ fn branch_from(asm: &mut Asm, number: u64, to: Label) -> Result<(), AllocError>
     ensures labels { asm.new.labels ≡ asm.old.labels }
 {
     load_constant(asm, number, SECOND_SCRATCH)?;
-    asm.branch(Cmp::Geu, FIRST_SCRATCH, SECOND_SCRATCH, to)?;
-    Ok(())
+    asm.branch(Cmp::Geu, FIRST_SCRATCH, SECOND_SCRATCH, to)
 }
 
 /// Goes to the label of the span that has the value in register 5, of spans that ascend, and to `end` where none has it: where they are many, the value
@@ -152,13 +148,10 @@ pub(crate) fn go_among(asm: &mut Asm, spans: &[Span]) -> Result<(), AllocError>
     ensures labels { OnOk result (MakesInner (length spans.now) asm.old.labels asm.new.labels) }
 {
     if let Some(last) = end_of_run(spans) {
-        jump_in_spans(asm, spans, last)?;
-        return Ok(());
+        return jump_in_spans(asm, spans, last);
     }
     if spans.len() <= FEW || spans.len() >= MOST_LABELS.saturating_sub(asm.label_count()) {
-        branch_in_spans(asm, spans)?;
-        return Ok(());
+        return branch_in_spans(asm, spans);
     }
-    search_on(asm, spans)?;
-    Ok(())
+    search_on(asm, spans)
 }

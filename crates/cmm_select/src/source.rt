@@ -34,18 +34,9 @@ pub fn bring(asm: &mut Asm, from: Source, rd: u8) -> Result<(), AllocError>
     ensures labels { asm.new.labels ≡ asm.old.labels }
 {
     match from {
-        Source::Place(place) => {
-            read(asm, place, rd)?;
-            Ok(())
-        }
-        Source::Number(number) => {
-            load_constant(asm, number, rd)?;
-            Ok(())
-        }
-        Source::Address(offset) => {
-            address(asm, offset, rd)?;
-            Ok(())
-        }
+        Source::Place(place) => read(asm, place, rd),
+        Source::Number(number) => load_constant(asm, number, rd),
+        Source::Address(offset) => address(asm, offset, rd),
     }
 }
 
@@ -58,10 +49,8 @@ pub(crate) fn address(asm: &mut Asm, offset: u32, rd: u8) -> Result<(), AllocErr
     ensures labels { asm.new.labels ≡ asm.old.labels }
 {
     if offset < NEAR {
-        asm.emit(add_to(rd, FRAME, offset))?;
-        return Ok(());
+        return asm.emit(add_to(rd, FRAME, offset));
     }
     approach(asm, offset, rd)?;
-    asm.emit(add_rest(rd, offset as u64))?;
-    Ok(())
+    asm.emit(add_rest(rd, offset as u64))
 }

@@ -31,8 +31,7 @@ pub(crate) fn operate_on_one(
 {
     wide_operators();
     asm.emit(instruction(operator, rd, from))?;
-    narrow(asm, width, rd)?;
-    Ok(())
+    narrow(asm, width, rd)
 }
 
 /// The instruction of an operator of 64 bits.

@@ -1,5 +1,6 @@
 use Rattle.std.proofs.Common.{refl, arith}
 use Rattle.cmm_effects.proofs.Shared.{adds_then, adds_weaker, leads_weaker}
+use Rattle.cmm_select.proofs.Ending.{by_last}
 use Rattle.cmm_select.proofs.Putting.{assigns_small_comparison}
 use Rattle.cmm_select.specs.declared.operand.Operand.TheVariants.{Held}
 use Rattle.cmm_select.specs.declared.source.Source.TheVariants.{Number}
@@ -7,8 +8,10 @@ use Rattle.cmm_select.proofs.assigning.assign_small_comparison.Goals as goal
 
 pub returns-clause-assigns : goal.returns-clause-assigns
 returns-clause-assigns c =
+    by_last c.finish.result c.finish.ensures.finishes
+    (λ h.
     let n = c.args.number in
-    adds_weaker (adds_then c.in_ok-source.ensures.locates (adds_then c.in_ok-compare_with.ensures.tells c.in_ok-finish.ensures.finishes)) (omega arith)
+    adds_weaker (adds_then c.in_ok-source.ensures.locates (adds_then c.in_ok-compare_with.ensures.tells h)) (omega arith)
     (λ x from end does. leads_weaker
     (assigns_small_comparison x c.args.to.now from end c.args.width c.args.left.now (Held (Number n)) 5 c.args.comparison c.target.result c.in_ok-source.source n c.target.ensures.is refl does)
-    (omega arith) (λ s sound can. can) (λ s t sound can puts. puts))
+    (omega arith) (λ s sound can. can) (λ s t sound can puts. puts)))

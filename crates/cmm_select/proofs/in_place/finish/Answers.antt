@@ -1,5 +1,6 @@
 use Rattle.std.proofs.Common.{◌∙◌, sym, arith}
 use Rattle.cmm_effects.proofs.Shared.{adds_none, adds_weaker}
+use Rattle.cmm_select.proofs.Ending.{by_last}
 use Rattle.cmm_select.proofs.InPlace.{finishes_put, finishes_there}
 use Rattle.cmm_select.proofs.in_place.finish.Goals as goal
 
@@ -10,5 +11,7 @@ returns-then-target-ne-FIRST_SCRATCH-clause-finishes c =
 
 pub returns-clause-finishes : goal.returns-clause-finishes
 returns-clause-finishes c =
-    adds_weaker c.in_ok-put.ensures.puts (omega arith)
-    (λ x from to puts. finishes_put x c.args.to.now from to (sym c.target.ensures.is ∙ c.if-target-ne-FIRST_SCRATCH.false) puts)
+    by_last c.put.result c.put.ensures.puts
+    (λ h.
+    adds_weaker h (omega arith)
+    (λ x from to puts. finishes_put x c.args.to.now from to (sym c.target.ensures.is ∙ c.if-target-ne-FIRST_SCRATCH.false) puts))

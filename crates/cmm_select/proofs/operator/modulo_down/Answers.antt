@@ -1,18 +1,21 @@
 use Rattle.std.proofs.Common.{◌+◌, arith}
 use Rattle.cmm_words.specs.declared.operators.Op2.TheVariants as op
 use Rattle.cmm_effects.proofs.Shared.{adds_then, adds_weaker, runs_of, runs_weaker}
+use Rattle.cmm_select.proofs.Ending.{by_last}
 use Rattle.cmm_select.proofs.Operating.{both_signed, signed_operates}
 use Rattle.cmm_select.specs.Operators.{shifts_of}
 use Rattle.cmm_select.proofs.operator.modulo_down.Goals as goal
 
 pub returns-clause-operates : goal.returns-clause-operates
 returns-clause-operates c =
+    by_last c.narrow.result c.narrow.ensures.narrows
+    (λ h.
     let w = c.args.width in
     let k = shifts_of w in
     adds_weaker
-    (adds_then c.in_ok-extend.ensures.extends (adds_then c.in_ok-extend-2.ensures.extends (adds_then c.in_ok-remainder_down.ensures.operates c.in_ok-narrow.ensures.narrows)))
+    (adds_then c.in_ok-extend.ensures.extends (adds_then c.in_ok-extend-2.ensures.extends (adds_then c.in_ok-remainder_down.ensures.operates h)))
     (omega arith)
     (λ x from to does. runs_weaker
     (signed_operates x w from does.2.0 does.2.2.0 to (k + k) 5 k op.Mod c.wide_operators.ensures.modulo
     (both_signed x w from does.0 does.2.0 k does.1 does.2.1) (runs_of does.2.2.1) does.2.2.2)
-    (omega arith) (omega arith) (λ s sound words. words) (λ s t sound words operates. operates))
+    (omega arith) (omega arith) (λ s sound words. words) (λ s t sound words operates. operates)))

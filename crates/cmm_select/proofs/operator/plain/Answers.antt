@@ -1,6 +1,7 @@
 use Rattle.std.proofs.Common.{◌≢◌, arith}
 use Rattle.cmm_effects.proofs.Shared.{adds_one, adds_then, adds_weaker}
 use Rattle.cmm_effects.specs.Pieces.{Adds}
+use Rattle.cmm_select.proofs.Ending.{by_last}
 use Rattle.cmm_select.proofs.Operating.{cut_makes, plain_cut}
 use Rattle.cmm_select.proofs.Places.{One}
 use Rattle.cmm_select.proofs.Wide.{does_plain}
@@ -10,6 +11,8 @@ use Rattle.cmm_select.proofs.operator.plain.Goals as goal
 
 pub returns-clause-operates : goal.returns-clause-operates
 returns-clause-operates c =
+    by_last c.narrow.result c.narrow.ensures.narrows
+    (λ h.
     let o = c.args.operator in
     let w = c.args.width in
     let rd = c.args.rd in
@@ -20,6 +23,6 @@ returns-clause-operates c =
     rw (c.in_ok-emit.ensures.parts, c.instruction.ensures.is) (adds_one c.args.asm.now.parts (direct o rd a b))
     in
     let written : rd ≢ 0 = (λ e. omega (arith, e, c.requires.register.0)) in
-    adds_weaker (adds_then first c.in_ok-narrow.ensures.narrows) (omega arith)
+    adds_weaker (adds_then first h) (omega arith)
     (λ x from to does. cut_makes (λ s. s.registers a) (λ s. s.registers b) x from does.0 to 1 (shifts_of w) rd o w (plain_cut o c.requires.plain l.add l.sub l.mul l.and l.or l.xor l.divu l.modu w)
-    (does_plain x from does.0 rd a b written o c.requires.plain does.1) does.2)
+    (does_plain x from does.0 rd a b written o c.requires.plain does.1) does.2))

@@ -4,6 +4,7 @@ use Rattle.rv_asm.specs.declared.part.Part.TheVariants.{Single}
 use Rattle.rv_table.specs.declared.instruction.Instr.TheVariants.{Mul, Sltiu}
 use Rattle.cmm_effects.proofs.Shared.{adds_one, adds_then, adds_weaker, runs_of}
 use Rattle.cmm_effects.specs.Pieces.{Adds}
+use Rattle.cmm_select.proofs.Ending.{by_last}
 use Rattle.cmm_select.proofs.Operating.{cut_operates, shift_cut}
 use Rattle.cmm_select.proofs.Places.{One}
 use Rattle.cmm_select.proofs.Shifting.{does_shift}
@@ -13,6 +14,8 @@ use Rattle.cmm_select.proofs.operator.shift.Goals as goal
 
 pub returns-clause-operates : goal.returns-clause-operates
 returns-clause-operates c =
+    by_last c.narrow.result c.narrow.ensures.narrows
+    (λ h.
     let o = c.args.operator in
     let w = c.args.width in
     let l = c.wide_operators.ensures in
@@ -22,6 +25,6 @@ returns-clause-operates c =
     rw (c.in_ok-emit-3.ensures.parts, c.in_ok-emit-2.ensures.parts, c.in_ok-emit.ensures.parts, c.instruction.ensures.is)
     (adds_weaker (adds_then (adds_one old (Sltiu 6 7 (pos 64))) (adds_then (adds_one one (direct o 5 5 7)) (adds_one (one ++ Single (direct o 5 5 7) ∷ []) (Mul 5 5 6)))) (omega arith) (λ x from to does. does))
     in
-    adds_weaker (adds_then first c.in_ok-narrow.ensures.narrows) (omega arith)
+    adds_weaker (adds_then first h) (omega arith)
     (λ x from to does. cut_operates x from does.0 to 3 (shifts_of w) o w (shift_cut o c.requires l.shl l.shrl)
-    (runs_of (does_shift x from does.0 o c.requires does.1)) does.2)
+    (runs_of (does_shift x from does.0 o c.requires does.1)) does.2))

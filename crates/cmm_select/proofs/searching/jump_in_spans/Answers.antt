@@ -5,6 +5,7 @@ use Rattle.rv_asm.specs.Assembly.{IsInner}
 use Rattle.rv_asm.specs.declared.part.Label.{Label}
 use Rattle.cmm_effects.proofs.Shared.{adds_weaker}
 use Rattle.cmm_effects.specs.Pieces.{Adds}
+use Rattle.cmm_select.proofs.Ending.{by_last}
 use Rattle.cmm_select.proofs.Halving.{goes_by_run}
 use Rattle.cmm_select.proofs.Spans.{all_labels}
 use Rattle.cmm_select.specs.inside.NumberRuns.{GoesInRun}
@@ -20,11 +21,13 @@ jump_by_table-requires-clause-inner c =
 
 pub returns-clause-goes : goal.returns-clause-goes
 returns-clause-goes c =
+    by_last c.jump_by_table.result c.jump_by_table.ensures.goes
+    (λ h.
     let ss = c.args.spans.now in
     let end = c.args.end in
     let whole : c.deref.result.now ≡ map (λ (s : Span). s.label) ss = c.deref.ensures.value ∙ c.in_ok-labels.ensures in
     let count : length (map (λ (s : Span). s.label) ss) ≡ length ss = length-map ss (λ s. s.label) in
     let goes : Adds (20 * length (map (λ (s : Span). s.label) ss)) c.args.asm.now.parts c.jump_by_table.new.asm.parts
     (GoesInRun 20 (map (λ (s : Span). s.label) ss) (end - length (map (λ (s : Span). s.label) ss))) =
-    rw whole at c.in_ok-jump_by_table.ensures.goes in
-    adds_weaker goes (omega (arith, count)) (λ x from on does. goes_by_run x 20 end ss from on c.requires.apart c.requires.some c.requires.behind c.requires.run does)
+    rw whole at h in
+    adds_weaker goes (omega (arith, count)) (λ x from on does. goes_by_run x 20 end ss from on c.requires.apart c.requires.some c.requires.behind c.requires.run does))
