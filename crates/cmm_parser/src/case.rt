@@ -7,7 +7,7 @@ ghost use Rattle.cmm_grammar_laws.specs.PartReading as parts;
 ghost use Rattle.cmm_grammar_laws.specs.StatementReading as statements;
 ghost use Rattle.cmm_parser.specs.inside.Parsing.{Takes, MayTake, point_of};
 
-use crate::fault::Stop;
+use crate::fault::{Stop, followed};
 use crate::list::Listed;
 use crate::parser::Parser;
 use cmm_ast::{Case, Expr, Range, Span};
@@ -23,8 +23,9 @@ impl Listed for Range {
     }
 
     fn parse(parser: &mut Parser<'_>) -> Result<Range, Stop> {
-        let from = parser.whole()?;
+        let from = parser.boxed_whole()?;
         let to = parser.range_end()?;
+        let from = from.into_inner();
         Ok(Range { from, to })
     }
 }
@@ -60,9 +61,10 @@ impl Parser<'_> {
     fn span_ends(&mut self) -> Result<Span, Stop>
         ensures { Takes (λ fuel. statements.span_ends fuel) (point_of self.old) result (point_of self.new) }
     {
-        let from = self.whole()?;
+        let from = self.boxed_whole()?;
         self.expect(Symbol::Range)?;
         let to = self.whole()?;
+        let from = from.into_inner();
         Ok(Span { from, to })
     }
 
@@ -72,7 +74,6 @@ impl Parser<'_> {
     {
         let outside = self.enter(Symbol::OpenSquare)?;
         let span = self.span_ends()?;
-        self.leave(Symbol::CloseSquare, outside)?;
-        Ok(span)
+        followed(span, self.leave(Symbol::CloseSquare, outside))
     }
 }

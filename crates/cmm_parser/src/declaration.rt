@@ -273,8 +273,9 @@ impl Parser<'_> {
         let head = self.head()?;
         let (width, name) = self.typed_name_by(head)?;
         self.expect(Symbol::Assign)?;
-        let value = self.whole()?;
+        let value = self.boxed_whole()?;
         self.expect(Symbol::Semicolon)?;
+        let value = value.into_inner();
         Ok(DeclForm::Const { width, name, value })
     }
 

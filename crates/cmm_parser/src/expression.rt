@@ -70,9 +70,16 @@ impl Parser<'_> {
     pub(crate) fn whole(&mut self) -> Result<Expr, Stop>
         ensures { Takes (λ fuel. readers.whole fuel) (point_of self.old) result (point_of self.new) }
     {
-        self.begin_outermost();
-        let e = self.operand(0)?;
+        let e = self.boxed_whole()?;
         Ok(e.into_inner())
+    }
+
+    /// An expression that stands in no other, in its box.
+    pub(crate) fn boxed_whole(&mut self) -> Result<Boxed<Expr>, Stop>
+        ensures { Takes (λ fuel. readers.whole fuel) (point_of self.old) result (point_of self.new) }
+    {
+        self.begin_outermost();
+        self.operand(0)
     }
 
     /// A primary expression that stands in no other.

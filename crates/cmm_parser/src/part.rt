@@ -13,7 +13,7 @@ ghost use Rattle.cmm_grammar_laws.specs.PartReading as parts;
 ghost use Rattle.cmm_grammar_laws.specs.StatementReading as readers;
 ghost use Rattle.cmm_parser.specs.inside.Parsing.{Takes, MayTake, point_of};
 
-use crate::fault::Stop;
+use crate::fault::{Stop, both, followed};
 use crate::parser::Parser;
 use crate::types::named_type;
 use cmm_ast::{
@@ -269,8 +269,9 @@ impl Parser<'_> {
         ensures { Takes (λ fuel. readers.return_form fuel) (point_of self.old) result (point_of self.new) }
     {
         let exit = self.optional_exit()?;
-        let values = self.optional_arguments()?;
-        self.expect(Symbol::Semicolon)?;
+        let left = both(exit, self.optional_arguments())?;
+        let left = followed(left, self.expect(Symbol::Semicolon))?;
+        let (exit, values) = left;
         Ok(StmtForm::Return { exit, values })
     }
 
@@ -310,8 +311,9 @@ impl Parser<'_> {
         ensures { Takes (λ fuel. readers.jump fuel) (point_of self.old) result (point_of self.new) }
     {
         let callee = self.callee()?;
-        let actuals = self.arguments()?;
-        self.expect(Symbol::Semicolon)?;
+        let called = both(callee, self.arguments())?;
+        let called = followed(called, self.expect(Symbol::Semicolon))?;
+        let (callee, actuals) = called;
         Ok(StmtForm::Jump { callee, actuals })
     }
 
@@ -321,8 +323,9 @@ impl Parser<'_> {
     {
         self.expect_word(Keyword::To)?;
         let callee = self.callee()?;
-        let actuals = self.arguments()?;
-        let flows = self.last_annotations()?;
+        let called = both(callee, self.arguments())?;
+        let (called, flows) = both(called, self.last_annotations())?;
+        let (callee, actuals) = called;
         Ok(StmtForm::Cut {
             callee,
             actuals,

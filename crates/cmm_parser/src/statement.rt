@@ -11,7 +11,7 @@ ghost use Rattle.cmm_grammar_laws.specs.StatementReading as readers;
 ghost use Rattle.cmm_grammar_laws.specs.StatementReading.{is_within};
 ghost use Rattle.cmm_parser.specs.inside.Parsing.{Takes, MayTake, TakesBlocks, MayTakeBlocks, TakesChain, MayTakeChain, point_of};
 
-use crate::fault::Stop;
+use crate::fault::{Stop, both};
 use crate::parser::Parser;
 use cmm_ast::{Arm, Block, Expr, Local, Otherwise, Part, Primary, Span, Stmt, StmtForm};
 use cmm_grammar_laws::PartForm;
@@ -71,12 +71,13 @@ fn of_stmt(alloc: Global, form: Boxed<StmtForm>) -> Result<Boxed<PartForm>, Allo
 #[inline(never)]
 fn boxed_if(
     alloc: Global,
-    condition: Expr,
+    condition: Boxed<Expr>,
     then: Block,
     otherwise: Otherwise,
 ) -> Result<Boxed<StmtForm>, AllocError>
     ensures { IfOk result (λ form. form ≡ stmts.If condition then otherwise) }
 {
+    let condition = condition.into_inner();
     Boxed::new(
         alloc,
         StmtForm::If {
@@ -92,11 +93,12 @@ fn boxed_if(
 fn boxed_switch(
     alloc: Global,
     range: Option<Span>,
-    value: Expr,
+    value: Boxed<Expr>,
     arms: Items<Arm>,
 ) -> Result<Boxed<StmtForm>, AllocError>
     ensures { IfOk result (λ form. form ≡ stmts.Switch range value arms) }
 {
+    let value = value.into_inner();
     Boxed::new(alloc, StmtForm::Switch { range, value, arms })
 }
 
@@ -105,11 +107,12 @@ fn boxed_switch(
 fn boxed_span(
     alloc: Global,
     key: Primary,
-    value: Expr,
+    value: Boxed<Expr>,
     body: Block,
 ) -> Result<Boxed<StmtForm>, AllocError>
     ensures { IfOk result (λ form. form ≡ stmts.Span key value body) }
 {
+    let value = value.into_inner();
     Boxed::new(alloc, StmtForm::Span { key, value, body })
 }
 
@@ -189,7 +192,7 @@ impl Parser<'_> {
     fn if_form(&mut self) -> Result<Boxed<StmtForm>, Stop>
         ensures { TakesChain (λ turns fuel blocks. readers.if_form fuel blocks (readers.otherwise turns fuel blocks)) (point_of self.old) result (point_of self.new) }
     {
-        let condition = self.whole()?;
+        let condition = self.boxed_whole()?;
         let then = self.block()?;
         let otherwise = self.otherwise()?;
         Ok(boxed_if(self.alloc, condition, then, otherwise)?)
@@ -231,8 +234,9 @@ impl Parser<'_> {
         ensures { TakesBlocks readers.switch_form (point_of self.old) result (point_of self.new) }
     {
         let range = self.optional_span()?;
-        let value = self.whole()?;
-        let arms = self.braced_arms()?;
+        let head = both(range, self.boxed_whole())?;
+        let (head, arms) = both(head, self.braced_arms())?;
+        let (range, value) = head;
         Ok(boxed_switch(self.alloc, range, value, arms)?)
     }
 
@@ -287,7 +291,7 @@ impl Parser<'_> {
         ensures { TakesBlocks readers.span_form (point_of self.old) result (point_of self.new) }
     {
         let key = self.whole_prim()?;
-        let value = self.whole()?;
+        let value = self.boxed_whole()?;
         let body = self.block()?;
         Ok(boxed_span(self.alloc, key, value, body)?)
     }

@@ -120,8 +120,9 @@ impl Parser<'_> {
         let token = self.here();
         self.expect_word(Keyword::Span)?;
         let key = self.whole_prim()?;
-        let value = self.whole()?;
+        let value = self.boxed_whole()?;
         let items = self.in_braces()?;
+        let value = value.into_inner();
         Ok(Item::Span {
             token,
             key,
