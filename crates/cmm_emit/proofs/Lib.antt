@@ -1,3 +1,4 @@
+mod Ending
 mod NodeSites
 mod Operands
 mod Bodies

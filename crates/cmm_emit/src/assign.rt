@@ -35,8 +35,7 @@ pub(crate) fn assign_body(
     ensures labels { asm.new.labels ≡ asm.old.labels }
 {
     let into = code_destination(context, targets, *to);
-    put_value(asm, context, targets, value, &into)?;
-    Ok(())
+    put_value(asm, context, targets, value, &into)
 }
 
 /// Puts the value of a right side where a destination is.
@@ -56,13 +55,11 @@ fn put_value(
     match *value {
         Rvalue::Copy(operand) => {
             let from = code_operand(context, targets, operand);
-            assign_copy(asm, &from, into)?;
-            Ok(())
+            assign_copy(asm, &from, into)
         }
         Rvalue::Register(register) => {
             let from = named_at(targets.registers.as_slice(), register.number);
-            assign_global(asm, from, into)?;
-            Ok(())
+            assign_global(asm, from, into)
         }
         Rvalue::Load {
             width,
@@ -70,8 +67,7 @@ fn put_value(
             address,
         } => {
             let from = code_operand(context, targets, address);
-            assign_loaded(asm, width, aligned, &from, into)?;
-            Ok(())
+            assign_loaded(asm, width, aligned, &from, into)
         }
         Rvalue::Unary {
             operator,
@@ -79,8 +75,7 @@ fn put_value(
             operand,
         } => {
             let from = code_operand(context, targets, operand);
-            assign_unary(asm, operator, width, &from, into)?;
-            Ok(())
+            assign_unary(asm, operator, width, &from, into)
         }
         Rvalue::Binary {
             operator,
@@ -90,22 +85,16 @@ fn put_value(
         } => {
             let left = code_operand(context, targets, left);
             let right = code_operand(context, targets, right);
-            assign_binary(asm, operator, width, &left, &right, into)?;
-            Ok(())
+            assign_binary(asm, operator, width, &left, &right, into)
         }
-        Rvalue::Compare(test) => {
-            put_comparison(asm, context, targets, &test, into)?;
-            Ok(())
-        }
+        Rvalue::Compare(test) => put_comparison(asm, context, targets, &test, into),
         Rvalue::SignExtend { from, to, operand } => {
             let value = code_operand(context, targets, operand);
-            assign_extended(asm, from, to, &value, into)?;
-            Ok(())
+            assign_extended(asm, from, to, &value, into)
         }
         Rvalue::LowBits { from, to, operand } => {
             let value = code_operand(context, targets, operand);
-            assign_low(asm, from, to, &value, into)?;
-            Ok(())
+            assign_low(asm, from, to, &value, into)
         }
     }
 }
@@ -126,6 +115,5 @@ fn put_comparison(
 {
     let left = code_operand(context, targets, test.left);
     let right = code_operand(context, targets, test.right);
-    assign_comparison(asm, test.operator, test.width, &left, &right, into)?;
-    Ok(())
+    assign_comparison(asm, test.operator, test.width, &left, &right, into)
 }

@@ -42,8 +42,7 @@ fn branch_body(
     let left = code_operand(context, targets, test.left);
     let right = code_operand(context, targets, test.right);
     let label = context.nodes.as_slice()[then.number as usize];
-    decide(asm, test.operator, test.width, &left, &right, label)?;
-    Ok(())
+    decide(asm, test.operator, test.width, &left, &right, label)
 }
 
 /// Goes by the arms of a switch.
@@ -61,8 +60,7 @@ fn switch_body(
     ensures labels { OnOk result (MakesInner (ranges_in arms.now) asm.old.labels asm.new.labels) }
 {
     let operand = code_operand(context, targets, value);
-    switch(asm, &operand, arms, context.nodes.as_slice())?;
-    Ok(())
+    switch(asm, &operand, arms, context.nodes.as_slice())
 }
 
 /// Stores a word at an address that is a multiple of `aligned` bytes.
@@ -83,8 +81,7 @@ fn store_body(
 {
     let to = code_operand(context, targets, address);
     let stored = code_operand(context, targets, value);
-    store(asm, width, aligned, &to, &stored)?;
-    Ok(())
+    store(asm, width, aligned, &to, &stored)
 }
 
 /// Puts the low byte of a value.
@@ -100,8 +97,7 @@ fn put_byte_body(
     ensures labels { asm.new.labels ≡ asm.old.labels }
 {
     let operand = code_operand(context, targets, value);
-    put_byte(asm, &operand)?;
-    Ok(())
+    put_byte(asm, &operand)
 }
 
 /// Ends a run that has gone wrong, at the end of a body.
@@ -109,8 +105,7 @@ fn stop_body(asm: &mut Asm, context: &Context, targets: &Targets) -> Result<(), 
     ensures code { OnOk result (Adds 1 asm.old.parts asm.new.parts (CodesNode context.now targets.now kind.Stop)) }
     ensures labels { asm.new.labels ≡ asm.old.labels }
 {
-    stop(asm)?;
-    Ok(())
+    stop(asm)
 }
 
 /// Takes the next byte of the input.
@@ -126,8 +121,7 @@ fn get_byte_body(
     ensures labels { asm.new.labels ≡ asm.old.labels }
 {
     let into = target_destination(context, targets, to);
-    get_byte(asm, &into)?;
-    Ok(())
+    get_byte(asm, &into)
 }
 
 /// The code of a foreign call.
@@ -143,14 +137,8 @@ fn host_body(
     ensures labels { asm.new.labels ≡ asm.old.labels }
 {
     match *call {
-        HostCall::PutByte(value) => {
-            put_byte_body(asm, context, targets, value)?;
-            Ok(())
-        }
-        HostCall::GetByte(to) => {
-            get_byte_body(asm, context, targets, to)?;
-            Ok(())
-        }
+        HostCall::PutByte(value) => put_byte_body(asm, context, targets, value),
+        HostCall::GetByte(to) => get_byte_body(asm, context, targets, to),
     }
 }
 
@@ -171,34 +159,20 @@ pub(crate) fn body(
 {
     match kind {
         NodeKind::Entry { formals, .. } => {
-            entry_body(asm, alloc, context, targets, formals.as_slice())?;
-            Ok(())
+            entry_body(asm, alloc, context, targets, formals.as_slice())
         }
-        NodeKind::CopyIn { to, .. } => {
-            copy_in_body(asm, alloc, context, targets, to.as_slice())?;
-            Ok(())
-        }
-        NodeKind::Assign { to, value, .. } => {
-            assign_body(asm, context, targets, to, value)?;
-            Ok(())
-        }
+        NodeKind::CopyIn { to, .. } => copy_in_body(asm, alloc, context, targets, to.as_slice()),
+        NodeKind::Assign { to, value, .. } => assign_body(asm, context, targets, to, value),
         NodeKind::Store {
             width,
             aligned,
             address,
             value,
             ..
-        } => {
-            store_body(asm, context, targets, *width, *aligned, *address, *value)?;
-            Ok(())
-        }
-        NodeKind::Branch { test, then, .. } => {
-            branch_body(asm, context, targets, test, *then)?;
-            Ok(())
-        }
+        } => store_body(asm, context, targets, *width, *aligned, *address, *value),
+        NodeKind::Branch { test, then, .. } => branch_body(asm, context, targets, test, *then),
         NodeKind::Switch { value, arms, .. } => {
-            switch_body(asm, context, targets, *value, arms.as_slice())?;
-            Ok(())
+            switch_body(asm, context, targets, *value, arms.as_slice())
         }
         NodeKind::Call {
             site,
@@ -215,8 +189,7 @@ pub(crate) fn body(
                 *callee,
                 arguments.as_slice(),
                 exits.get(),
-            )?;
-            Ok(())
+            )
         }
         NodeKind::Yield {
             site,
@@ -231,29 +204,19 @@ pub(crate) fn body(
                 *site,
                 values.as_slice(),
                 exits.get(),
-            )?;
-            Ok(())
+            )
         }
         NodeKind::Jump { callee, arguments } => {
-            jump_body(asm, alloc, context, targets, *callee, arguments.as_slice())?;
-            Ok(())
+            jump_body(asm, alloc, context, targets, *callee, arguments.as_slice())
         }
         NodeKind::Cut { to, arguments, .. } => {
-            cut_body(asm, alloc, context, targets, *to, arguments.as_slice())?;
-            Ok(())
+            cut_body(asm, alloc, context, targets, *to, arguments.as_slice())
         }
         NodeKind::Return { exit, results, .. } => {
-            return_body(asm, alloc, context, targets, *exit, results.as_slice())?;
-            Ok(())
+            return_body(asm, alloc, context, targets, *exit, results.as_slice())
         }
-        NodeKind::Host { call, .. } => {
-            host_body(asm, context, targets, call)?;
-            Ok(())
-        }
+        NodeKind::Host { call, .. } => host_body(asm, context, targets, call),
         NodeKind::Goto { .. } => Ok(()),
-        NodeKind::Stop => {
-            stop_body(asm, context, targets)?;
-            Ok(())
-        }
+        NodeKind::Stop => stop_body(asm, context, targets),
     }
 }

@@ -44,8 +44,7 @@ fn call_label(
 {
     let operands = argument_operands(alloc, context, targets, arguments)?;
     let back = context.sites.as_slice()[site.number as usize];
-    call(asm, &context.frame, operands.as_slice(), to, back)?;
-    Ok(())
+    call(asm, &context.frame, operands.as_slice(), to, back)
 }
 
 /// Calls the procedure whose address an operand gives. The site gets its place behind.
@@ -69,8 +68,7 @@ fn call_operand(
     let operands = argument_operands(alloc, context, targets, arguments)?;
     let to = code_operand(context, targets, callee);
     let back = context.sites.as_slice()[site.number as usize];
-    call_by(asm, &context.frame, &to, operands.as_slice(), back)?;
-    Ok(())
+    call_by(asm, &context.frame, &to, operands.as_slice(), back)
 }
 
 /// Calls a procedure. The site gets its place behind.
@@ -92,14 +90,8 @@ fn call_callee(
     ensures behind { OnOk result (IsBehind (site_label context.now site) 0 asm.new.parts) }
 {
     match named_label(context, targets, callee) {
-        Some(to) => {
-            call_label(asm, alloc, context, targets, arguments, to, site)?;
-            Ok(())
-        }
-        None => {
-            call_operand(asm, alloc, context, targets, callee, arguments, site)?;
-            Ok(())
-        }
+        Some(to) => call_label(asm, alloc, context, targets, arguments, to, site),
+        None => call_operand(asm, alloc, context, targets, callee, arguments, site),
     }
 }
 
@@ -118,8 +110,7 @@ fn lay_landings(
     ensures labels { asm.new.labels ≡ asm.old.labels }
 {
     let landings = landing_labels(alloc, context, exits.returns.as_slice())?;
-    lay_exits(asm, landings.as_slice())?;
-    Ok(())
+    lay_exits(asm, landings.as_slice())
 }
 
 /// Leads from a site on: to the landings of the alternate exits, and by the normal one to where the code goes on. Where there is no normal exit, a
@@ -140,10 +131,7 @@ pub(crate) fn lead_back(
     lay_landings(asm, alloc, context, targets, exits)?;
     match exits.normal {
         Some(_) => Ok(()),
-        None => {
-            stop(asm)?;
-            Ok(())
-        }
+        None => stop(asm),
     }
 }
 
@@ -166,6 +154,5 @@ pub(crate) fn call_body(
     ensures behind { OnOk result (IsBehind (site_label context.now site) (length exits.now.returns) asm.new.parts) }
 {
     call_callee(asm, alloc, context, targets, callee, arguments, site)?;
-    lead_back(asm, alloc, context, targets, exits)?;
-    Ok(())
+    lead_back(asm, alloc, context, targets, exits)
 }

@@ -241,8 +241,7 @@ fn lay_from(
     }
     asm.place(context.nodes.as_slice()[first.number as usize]);
     placed.insert(first.number);
-    lay_chain(asm, alloc, context, targets, graph, first, placed)?;
-    Ok(())
+    lay_chain(asm, alloc, context, targets, graph, first, placed)
 }
 
 /// Lays those of some nodes that have no place yet, and behind each what falls behind it.

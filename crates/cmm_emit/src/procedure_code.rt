@@ -31,8 +31,7 @@ fn lay_procedure(
     let context = &outline.contexts.as_slice()[number];
     let graph = &graphs[outline.first + number];
     lay_nodes(asm, alloc, context, &outline.targets, graph)?;
-    close(asm)?;
-    Ok(())
+    close(asm)
 }
 
 /// Lays the code of each procedure, in their order.

@@ -29,8 +29,7 @@ pub fn close(asm: &mut Asm) -> Result<(), AllocError>
     ensures parts { OnOk result (asm.new.parts ≡ asm.old.parts ++ Single Ebreak ∷ []) }
     ensures labels { asm.new.labels ≡ asm.old.labels }
 {
-    asm.emit(Instr::Ebreak)?;
-    Ok(())
+    asm.emit(Instr::Ebreak)
 }
 
 /// Calls `main`, and ends the run with what it returns, at a label.
@@ -46,8 +45,7 @@ fn lay_start(asm: &mut Asm, main: Label, last: Label) -> Result<(), AllocError>
     asm.call(main)?;
     asm.place(last);
     ask_end(asm)?;
-    close(asm)?;
-    Ok(())
+    close(asm)
 }
 
 /// Ends the run at the limit of the stack, at a label.
@@ -59,8 +57,7 @@ pub fn lay_limit(asm: &mut Asm, limit: Label) -> Result<(), AllocError>
     ensures labels { OnOk result (asm.new.labels ≡ slice_set asm.old.labels limit.number (Inner true)) }
 {
     asm.place(limit);
-    ask_limit(asm)?;
-    Ok(())
+    ask_limit(asm)
 }
 
 /// Calls the client, at a label.
@@ -72,8 +69,7 @@ pub fn lay_client(asm: &mut Asm, client: Label) -> Result<(), AllocError>
     ensures labels { OnOk result (asm.new.labels ≡ slice_set asm.old.labels client.number (Inner true)) }
 {
     asm.place(client);
-    ask_client(asm)?;
-    Ok(())
+    ask_client(asm)
 }
 
 /// The code with which a run begins.
@@ -88,14 +84,14 @@ pub struct Start {
 pub fn start_code(alloc: Global, program: &Program) -> Result<Start, AllocError>
     ensures { IfOk result (IsStart program.now) }
 {
-    let mut references = Items::new(alloc);
-    references.push(Reference::Procedure(program.main))?;
     let mut asm = Asm::new(alloc);
     let main = asm.outer(0, true)?;
     let last = asm.label()?;
     lay_start(&mut asm, main, last)?;
     let placed = asm.finish(0)?;
     let last = place(placed.places.as_slice(), last);
+    let mut references = Items::new(alloc);
+    references.push(Reference::Procedure(program.main))?;
     let code = UnitCode {
         code: placed.bytes,
         references,

@@ -39,8 +39,7 @@ pub(crate) fn entry_body(
         context.zeroed.as_slice(),
         places.as_slice(),
         targets.limit,
-    )?;
-    Ok(())
+    )
 }
 
 /// Lands: the values that control brings come to what takes them. Where there is none, nothing is to be done.
@@ -57,8 +56,7 @@ pub(crate) fn copy_in_body(
     ensures labels { asm.new.labels ≡ asm.old.labels }
 {
     let destinations = target_destinations(alloc, context, targets, to)?;
-    copy_in(asm, &context.frame, destinations.as_slice())?;
-    Ok(())
+    copy_in(asm, &context.frame, destinations.as_slice())
 }
 
 /// Returns values by an exit.
@@ -76,8 +74,7 @@ pub(crate) fn return_body(
     ensures labels { asm.new.labels ≡ asm.old.labels }
 {
     let operands = argument_operands(alloc, context, targets, results)?;
-    return_values(asm, &context.frame, operands.as_slice(), exit)?;
-    Ok(())
+    return_values(asm, &context.frame, operands.as_slice(), exit)
 }
 
 /// The label of the procedure that an operand names.
@@ -114,8 +111,7 @@ fn jump_to_label(
     ensures labels { asm.new.labels ≡ asm.old.labels }
 {
     let operands = argument_operands(alloc, context, targets, arguments)?;
-    jump(asm, &context.frame, operands.as_slice(), to)?;
-    Ok(())
+    jump(asm, &context.frame, operands.as_slice(), to)
 }
 
 /// Goes to the procedure whose address an operand gives, in the caller's place.
@@ -134,8 +130,7 @@ fn jump_to_operand(
 {
     let operands = argument_operands(alloc, context, targets, arguments)?;
     let to = code_operand(context, targets, callee);
-    jump_by(asm, &context.frame, &to, operands.as_slice())?;
-    Ok(())
+    jump_by(asm, &context.frame, &to, operands.as_slice())
 }
 
 /// Goes to a procedure in the caller's place.
@@ -153,14 +148,8 @@ pub(crate) fn jump_body(
     ensures labels { asm.new.labels ≡ asm.old.labels }
 {
     match named_label(context, targets, callee) {
-        Some(to) => {
-            jump_to_label(asm, alloc, context, targets, callee, arguments, to)?;
-            Ok(())
-        }
-        None => {
-            jump_to_operand(asm, alloc, context, targets, callee, arguments)?;
-            Ok(())
-        }
+        Some(to) => jump_to_label(asm, alloc, context, targets, callee, arguments, to),
+        None => jump_to_operand(asm, alloc, context, targets, callee, arguments),
     }
 }
 
@@ -180,6 +169,5 @@ pub(crate) fn cut_body(
 {
     let operands = argument_operands(alloc, context, targets, arguments)?;
     let pair = code_operand(context, targets, to);
-    cut(asm, &context.frame, &pair, operands.as_slice())?;
-    Ok(())
+    cut(asm, &context.frame, &pair, operands.as_slice())
 }

@@ -64,6 +64,5 @@ pub(crate) fn yield_body(
     ensures behind { OnOk result (IsBehind (site_label context.now site) (length exits.now.returns) asm.new.parts) }
 {
     yield_values(asm, alloc, context, targets, site, values)?;
-    lead_back(asm, alloc, context, targets, exits)?;
-    Ok(())
+    lead_back(asm, alloc, context, targets, exits)
 }

@@ -1,6 +1,7 @@
 use Rattle.std.proofs.Common.{◌≡◌, length, arith}
 use Rattle.std.proofs.lemmas.List.{length-map}
 use Rattle.cmm_effects.proofs.Shared.{adds_weaker}
+use Rattle.cmm_emit.proofs.Ending.{by_last}
 use Rattle.cmm_emit.proofs.Bodies.{few_for}
 use Rattle.cmm_emit.proofs.Calls.{calls_operand}
 use Rattle.cmm_emit.proofs.Operands.{operands_are_ready}
@@ -14,10 +15,12 @@ call_by-requires-clause-labels c =
 
 pub returns-clause-code : goal.returns-clause-code
 returns-clause-code c =
+    by_last c.call_by.result c.call_by.ensures.calls
+    (λ h.
     let p = c.args.context.now in
     let y = c.args.targets.now in
     let arguments = c.args.arguments.now in
     let same : length (argument_operands p y arguments) ≡ length arguments = length-map arguments (argument_operand p y) in
-    let calls = rw (c.code_operand-to.ensures, c.as_slice.ensures, c.as_slice-2.ensures, c.in_ok-operands.ensures) at c.in_ok-call_by.ensures.calls in
+    let calls = rw (c.code_operand-to.ensures, c.as_slice.ensures, c.as_slice-2.ensures, c.in_ok-operands.ensures) at h in
     adds_weaker calls (omega (arith, same, few_for (code_operand p y c.args.callee)))
-    (λ x from to does. calls_operand c.args.asm.now.labels p y c.requires.ready x from to c.args.site c.requires.site c.args.callee arguments c.requires.goes does)
+    (λ x from to does. calls_operand c.args.asm.now.labels p y c.requires.ready x from to c.args.site c.requires.site c.args.callee arguments c.requires.goes does))

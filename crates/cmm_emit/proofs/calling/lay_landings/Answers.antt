@@ -2,6 +2,7 @@ use Rattle.std.proofs.Common.{◌≡◌, ◌≤◌, ap, length, arith}
 use Rattle.std.proofs.lemmas.Bool.Decides.{nat_tests}
 use Rattle.cmm_effects.proofs.Shared.{adds_weaker}
 use Rattle.cmm_calls.specs.Calls.{exits_cost}
+use Rattle.cmm_emit.proofs.Ending.{by_last}
 use Rattle.cmm_emit.proofs.Calls.{inner_landings, landings_count}
 use Rattle.cmm_emit.specs.Naming.{landing_labels}
 use Rattle.cmm_emit.proofs.calling.lay_landings.Goals as goal
@@ -21,16 +22,20 @@ lay_exits-requires-clause-inner c =
 
 pub returns-clause-exits : goal.returns-clause-exits
 returns-clause-exits c =
+    by_last c.lay_exits.result c.lay_exits.ensures.exits
+    (λ h.
     let p = c.args.context.now in
     let returns = c.args.exits.now.returns in
     let same : length (landing_labels p returns) ≡ length returns = landings_count p returns in
-    let exits = rw (c.as_slice-2.ensures, c.in_ok-landings.ensures, c.as_slice.ensures) at c.in_ok-lay_exits.ensures.exits in
+    let exits = rw (c.as_slice-2.ensures, c.in_ok-landings.ensures, c.as_slice.ensures) at h in
     let cost : exits_cost (length (landing_labels p returns)) ≡ exits_cost (length returns) = ap exits_cost same in
-    adds_weaker exits (omega (arith, cost)) (λ x from to does. does)
+    adds_weaker exits (omega (arith, cost)) (λ x from to does. does))
 
 pub returns-clause-words : goal.returns-clause-words
 returns-clause-words c =
+    by_last c.lay_exits.result c.lay_exits.ensures.words
+    (λ h.
     let p = c.args.context.now in
     let returns = c.args.exits.now.returns in
     let same : length (landing_labels p returns) ≡ length returns = landings_count p returns in
-    rw same at (rw (c.as_slice-2.ensures, c.in_ok-landings.ensures, c.as_slice.ensures) at c.in_ok-lay_exits.ensures.words)
+    rw same at (rw (c.as_slice-2.ensures, c.in_ok-landings.ensures, c.as_slice.ensures) at h))

@@ -1,5 +1,6 @@
 use Rattle.std.proofs.Common.{◌<◌, ◌≤◌, ◌∷◌, [], ap, length, sym, ◌∙◌, None, Some, arith}
 use Rattle.std.proofs.lemmas.Bool.Decides.{nat_tests}
+use Rattle.cmm_emit.proofs.Ending.{by_last}
 use Rattle.cmm_emit.proofs.NodeLabels.{laid_placed, ready_placed}
 use Rattle.std.proofs.lemmas.Option.{slice_get_within}
 use Rattle.rv_asm.proofs.Shared.{appends_one, appends_then, appends_weaker, codes_more, longest-append}
@@ -45,6 +46,8 @@ returns-then-has-clause-behind c = none_behind c.args.context.now c.args.targets
 
 pub returns-clause-behind : goal.returns-clause-behind
 returns-clause-behind c =
+    by_last c.lay_chain.result c.lay_chain.ensures.behind
+    (λ h.
     let p = c.args.context.now in
     let y = c.args.targets.now in
     let g = c.args.graph.now in
@@ -52,7 +55,7 @@ returns-clause-behind c =
     let old = c.args.placed.now in
     let labels = c.args.asm.now.labels in
     let front = c.args.asm.now.parts in
-    let chain = c.in_ok-lay_chain.ensures.behind in
+    let chain = h in
     let within : n.number < length p.nodes = grind (arith, nat_tests, c.requires.first) in
     let fresh = sym c.has.ensures ∙ c.if-has.false in
     let is-labels = rw c.as_slice.ensures at c.place.ensures.labels in
@@ -66,4 +69,4 @@ returns-clause-behind c =
       added = appends_weaker (appends_then place chain.added) (λ x from to does. tt);
       places = own_then p labels c.place.new.self.labels c.lay_chain.new.asm.labels (rw is-labels (own_node p labels n.number within there)) chain.places;
       size = let few = chain.size in omega (arith, few, placed, ap all_longest parts, longest-append front (Place (label_at p.nodes n.number) ∷ []));
-    }
+    })

@@ -1,5 +1,6 @@
 use Rattle.std.proofs.Common.{arith}
 use Rattle.cmm_effects.proofs.Shared.{adds_weaker}
+use Rattle.cmm_emit.proofs.Ending.{by_last}
 use Rattle.cmm_emit.proofs.Bodies.{few_for, jump_by_codes}
 use Rattle.cmm_emit.proofs.Operands.{operands_are_ready}
 use Rattle.cmm_emit.specs.Naming.{code_operand}
@@ -12,6 +13,8 @@ jump_by-requires-clause-labels c =
 
 pub returns-clause-code : goal.returns-clause-code
 returns-clause-code c =
-    let jumps = rw (c.code_operand-to.ensures, c.as_slice.ensures, c.in_ok-operands.ensures) at c.in_ok-jump_by.ensures.jumps in
+    by_last c.jump_by.result c.jump_by.ensures.jumps
+    (λ h.
+    let jumps = rw (c.code_operand-to.ensures, c.as_slice.ensures, c.in_ok-operands.ensures) at h in
     adds_weaker jumps (omega (arith, few_for (code_operand c.args.context.now c.args.targets.now c.args.callee)))
-    (λ x from to does. jump_by_codes c.args.asm.now.labels c.args.context.now c.args.targets.now c.requires.ready x from to c.args.callee c.args.arguments.now c.requires.goes does)
+    (λ x from to does. jump_by_codes c.args.asm.now.labels c.args.context.now c.args.targets.now c.requires.ready x from to c.args.callee c.args.arguments.now c.requires.goes does))

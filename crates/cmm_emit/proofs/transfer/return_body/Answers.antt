@@ -1,3 +1,4 @@
+use Rattle.cmm_emit.proofs.Ending.{by_last}
 use Rattle.cmm_emit.proofs.Operands.{operands_are_ready}
 use Rattle.std.proofs.Common.{arith}
 use Rattle.cmm_effects.proofs.Shared.{adds_weaker}
@@ -11,6 +12,8 @@ return_values-requires-clause-labels c =
 
 pub returns-clause-code : goal.returns-clause-code
 returns-clause-code c alternates =
-    let returns = rw (c.as_slice.ensures, c.in_ok-operands.ensures) at c.in_ok-return_values.ensures.returns in
+    by_last c.return_values.result c.return_values.ensures.returns
+    (λ h.
+    let returns = rw (c.as_slice.ensures, c.in_ok-operands.ensures) at h in
     adds_weaker returns (omega arith)
-    (λ x from to does. return_codes c.args.asm.now.labels c.args.context.now c.args.targets.now c.requires.ready x from to c.args.exit alternates c.args.results.now c.requires.results does)
+    (λ x from to does. return_codes c.args.asm.now.labels c.args.context.now c.args.targets.now c.requires.ready x from to c.args.exit alternates c.args.results.now c.requires.results does))

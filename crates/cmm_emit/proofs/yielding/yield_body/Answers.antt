@@ -1,5 +1,6 @@
 use Rattle.std.proofs.Common.{arith}
 use Rattle.cmm_effects.proofs.Shared.{adds_then, adds_weaker}
+use Rattle.cmm_emit.proofs.Ending.{by_last}
 use Rattle.cmm_emit.proofs.Calls.{yield_codes}
 use Rattle.cmm_emit.proofs.NodeLabels.{ready_kept}
 use Rattle.rv_asm.proofs.Shared.{kept_placed}
@@ -15,8 +16,13 @@ lead_back-requires-clause-ready c =
 
 pub returns-clause-code : goal.returns-clause-code
 returns-clause-code c =
-    adds_weaker (adds_then c.in_ok-yield_values.ensures.code c.in_ok-lead_back.ensures.leads) (omega arith)
-    (λ x from to does. yield_codes c.args.context.now c.args.targets.now x from does.0 to c.args.site c.args.values.now c.args.exits.now c.requires.yields does.1 does.2)
+    by_last c.lead_back.result c.lead_back.ensures.leads
+    (λ h.
+    adds_weaker (adds_then c.in_ok-yield_values.ensures.code h) (omega arith)
+    (λ x from to does. yield_codes c.args.context.now c.args.targets.now x from does.0 to c.args.site c.args.values.now c.args.exits.now c.requires.yields does.1 does.2))
 
 pub returns-clause-behind : goal.returns-clause-behind
-returns-clause-behind c = behind_words c.in_ok-yield_values.ensures.behind c.in_ok-lead_back.ensures.words
+returns-clause-behind c =
+    by_last c.lead_back.result c.lead_back.ensures.words
+    (λ h.
+    behind_words c.in_ok-yield_values.ensures.behind h)
