@@ -1,3 +1,4 @@
+mod Ending
 mod Places
 mod Following
 mod Labels

@@ -1,4 +1,3 @@
-mod Ending
 mod NodeSites
 mod Operands
 mod Bodies

@@ -1,4 +1,3 @@
-mod Ending
 mod Sums
 mod Places
 mod Constants

@@ -1,6 +1,5 @@
-use Rattle.cmm_effects.proofs.Shared.{adds_weaker}
+use Rattle.cmm_effects.proofs.Shared.{adds_weaker, by_last}
 use Rattle.std.proofs.Common.{arith}
-use Rattle.cmm_emit.proofs.Ending.{by_last}
 use Rattle.cmm_emit.proofs.Assigning.{comparison_puts}
 use Rattle.cmm_emit.proofs.assign.put_comparison.Goals as goal
 

@@ -1,6 +1,5 @@
-use Rattle.cmm_effects.proofs.Shared.{adds_weaker}
+use Rattle.cmm_effects.proofs.Shared.{adds_weaker, by_last}
 use Rattle.std.proofs.Common.{arith}
-use Rattle.cmm_emit.proofs.Ending.{by_last}
 use Rattle.cmm_emit.proofs.Assigning.{binary_puts, copy_puts, extended_puts, load_puts, low_puts, register_puts, unary_puts}
 use Rattle.cmm_emit.proofs.assign.put_value.Goals as goal
 

@@ -1,7 +1,6 @@
 use Rattle.std.proofs.Common.{arith, refl, Result, Ok, Err}
 use Rattle.std.specs.Result.{OnOk}
-use Rattle.cmm_effects.proofs.Shared.{adds_none, adds_weaker}
-use Rattle.cmm_emit.proofs.Ending.{by_last}
+use Rattle.cmm_effects.proofs.Shared.{adds_none, adds_weaker, by_last}
 use Rattle.cmm_emit.proofs.NodeLabels.{makes_same}
 use Rattle.cmm_emit.proofs.body.body.Goals as goal
 

@@ -1,7 +1,6 @@
 use Rattle.std.proofs.Common.{◌≡◌, length, arith}
 use Rattle.std.proofs.lemmas.List.{length-map}
-use Rattle.cmm_effects.proofs.Shared.{adds_weaker}
-use Rattle.cmm_emit.proofs.Ending.{by_last}
+use Rattle.cmm_effects.proofs.Shared.{adds_weaker, by_last}
 use Rattle.cmm_emit.proofs.Bodies.{few_for}
 use Rattle.cmm_emit.proofs.Calls.{calls_operand}
 use Rattle.cmm_emit.proofs.Operands.{operands_are_ready}

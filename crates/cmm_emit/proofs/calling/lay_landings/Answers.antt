@@ -1,8 +1,7 @@
 use Rattle.std.proofs.Common.{◌≡◌, ◌≤◌, ap, length, arith}
 use Rattle.std.proofs.lemmas.Bool.Decides.{nat_tests}
-use Rattle.cmm_effects.proofs.Shared.{adds_weaker}
+use Rattle.cmm_effects.proofs.Shared.{adds_weaker, by_last}
 use Rattle.cmm_calls.specs.Calls.{exits_cost}
-use Rattle.cmm_emit.proofs.Ending.{by_last}
 use Rattle.cmm_emit.proofs.Calls.{inner_landings, landings_count}
 use Rattle.cmm_emit.specs.Naming.{landing_labels}
 use Rattle.cmm_emit.proofs.calling.lay_landings.Goals as goal

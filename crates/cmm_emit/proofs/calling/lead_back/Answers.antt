@@ -1,7 +1,6 @@
 use Rattle.std.proofs.Common.{refl, arith}
-use Rattle.cmm_effects.proofs.Shared.{adds_then, adds_weaker}
+use Rattle.cmm_effects.proofs.Shared.{adds_then, adds_weaker, by_last}
 use Rattle.rv_asm.proofs.Shared.{words_more}
-use Rattle.cmm_emit.proofs.Ending.{by_last}
 use Rattle.cmm_emit.proofs.calling.lead_back.Goals as goal
 
 pub returns-in-Some-clause-leads : goal.returns-in-Some-clause-leads

@@ -1,6 +1,6 @@
 use Rattle.std.proofs.Common.{◌<◌, ◌≤◌, ◌∷◌, [], ap, length, sym, ◌∙◌, None, Some, arith}
 use Rattle.std.proofs.lemmas.Bool.Decides.{nat_tests}
-use Rattle.cmm_emit.proofs.Ending.{by_last}
+use Rattle.cmm_effects.proofs.Shared.{by_last}
 use Rattle.cmm_emit.proofs.NodeLabels.{laid_placed, ready_placed}
 use Rattle.std.proofs.lemmas.Option.{slice_get_within}
 use Rattle.rv_asm.proofs.Shared.{appends_one, appends_then, appends_weaker, codes_more, longest-append}

@@ -6,7 +6,7 @@ use Rattle.std.proofs.lemmas.Bool.Decides.{nat_tests}
 use Rattle.rv_asm.specs.declared.part.Meaning.{Meaning}
 use Rattle.std.proofs.Common.{List}
 use Rattle.cmm_emit.specs.LaidNodes.{PlacesOwn}
-use Rattle.cmm_emit.proofs.Ending.{by_last}
+use Rattle.cmm_effects.proofs.Shared.{by_last}
 use Rattle.cmm_emit.proofs.Advancing.{are_laid, are_unplaced, codes_next, have_sites, is_ready, labels_next, nodes_counted}
 use Rattle.cmm_emit.proofs.Closing.{one_read}
 use Rattle.cmm_emit.specs.Outlines.{own}

@@ -3,7 +3,7 @@ use Rattle.rv_asm.proofs.Shared.{codes_new, longest-append}
 use Rattle.rv_asm.specs.Sizes.{all_longest}
 use Rattle.rv_asm.specs.declared.part.Part.{Part}
 use Rattle.rv_asm.specs.declared.part.Part.TheVariants.{Place}
-use Rattle.cmm_emit.proofs.Ending.{by_last}
+use Rattle.cmm_effects.proofs.Shared.{by_last}
 use Rattle.cmm_emit.proofs.start.lay_client.Goals as goal
 
 pub returns-clause-placed : goal.returns-clause-placed

@@ -3,7 +3,7 @@ use Rattle.rv_asm.proofs.Shared.{appends_one, appends_then, appends_weaker, code
 use Rattle.rv_asm.specs.Sizes.{all_longest}
 use Rattle.rv_asm.specs.declared.part.Part.TheVariants.{Call, Place, Single}
 use Rattle.rv_table.specs.declared.instruction.Instr.TheVariants.{Ebreak}
-use Rattle.cmm_emit.proofs.Ending.{by_last}
+use Rattle.cmm_effects.proofs.Shared.{by_last}
 use Rattle.cmm_emit.proofs.Starting.{calls_main, closing}
 use Rattle.cmm_emit.proofs.start.lay_start.Goals as goal
 

@@ -2,8 +2,7 @@ use Rattle.std.proofs.lemmas.List.{length-map}
 use Rattle.cmm_graph.specs.declared.number.Variable.{Variable}
 use Rattle.cmm_chain.specs.declared.frame.Location.{Location}
 use Rattle.std.proofs.Common.{arith}
-use Rattle.cmm_effects.proofs.Shared.{adds_weaker}
-use Rattle.cmm_emit.proofs.Ending.{by_last}
+use Rattle.cmm_effects.proofs.Shared.{adds_weaker, by_last}
 use Rattle.cmm_emit.proofs.Bodies.{begin_codes}
 use Rattle.cmm_emit.proofs.transfer.entry_body.Goals as goal
 

@@ -1,6 +1,5 @@
 use Rattle.std.proofs.Common.{arith}
-use Rattle.cmm_effects.proofs.Shared.{adds_weaker}
-use Rattle.cmm_emit.proofs.Ending.{by_last}
+use Rattle.cmm_effects.proofs.Shared.{adds_weaker, by_last}
 use Rattle.cmm_emit.proofs.Bodies.{jump_codes}
 use Rattle.cmm_emit.proofs.Operands.{named_is_target, operands_are_ready}
 use Rattle.cmm_emit.proofs.transfer.jump_to_label.Goals as goal

@@ -1,6 +1,5 @@
 use Rattle.std.proofs.Common.{arith}
-use Rattle.cmm_effects.proofs.Shared.{adds_weaker}
-use Rattle.cmm_emit.proofs.Ending.{by_last}
+use Rattle.cmm_effects.proofs.Shared.{adds_weaker, by_last}
 use Rattle.cmm_emit.proofs.Bodies.{few_for, jump_by_codes}
 use Rattle.cmm_emit.proofs.Operands.{operands_are_ready}
 use Rattle.cmm_emit.specs.Naming.{code_operand}

@@ -1,7 +1,6 @@
-use Rattle.cmm_emit.proofs.Ending.{by_last}
 use Rattle.cmm_emit.proofs.Operands.{operands_are_ready}
 use Rattle.std.proofs.Common.{arith}
-use Rattle.cmm_effects.proofs.Shared.{adds_weaker}
+use Rattle.cmm_effects.proofs.Shared.{adds_weaker, by_last}
 use Rattle.cmm_emit.proofs.Bodies.{return_codes}
 use Rattle.cmm_emit.proofs.transfer.return_body.Goals as goal
 

@@ -1,6 +1,5 @@
 use Rattle.std.proofs.Common.{arith}
-use Rattle.cmm_effects.proofs.Shared.{adds_then, adds_weaker}
-use Rattle.cmm_emit.proofs.Ending.{by_last}
+use Rattle.cmm_effects.proofs.Shared.{adds_then, adds_weaker, by_last}
 use Rattle.cmm_emit.proofs.Calls.{yield_codes}
 use Rattle.cmm_emit.proofs.NodeLabels.{ready_kept}
 use Rattle.rv_asm.proofs.Shared.{kept_placed}

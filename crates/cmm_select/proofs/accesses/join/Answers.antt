@@ -1,7 +1,6 @@
 use Rattle.std.proofs.Common.{arith}
 use Rattle.rv_table.specs.declared.instruction.Instr.TheVariants.{Add}
-use Rattle.cmm_effects.proofs.Shared.{adds_one, adds_then, adds_weaker}
-use Rattle.cmm_select.proofs.Ending.{by_last}
+use Rattle.cmm_effects.proofs.Shared.{adds_one, adds_then, adds_weaker, by_last}
 use Rattle.cmm_select.proofs.Chains.{also}
 use Rattle.cmm_select.proofs.Gathering.{joins}
 use Rattle.cmm_select.specs.inside.Accesses.{load_part}

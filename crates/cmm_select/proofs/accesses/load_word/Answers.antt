@@ -1,7 +1,6 @@
 use Rattle.std.proofs.Common.{◌≡◌, ℕ, suc, ◌-◌, ◌*◌, ◌/◌, ◌<◌, ◌∙◌, ap, arith}
 use Rattle.cmm_words.specs.Widths.{bytes}
-use Rattle.cmm_effects.proofs.Shared.{adds_then, adds_weaker, leads_weaker}
-use Rattle.cmm_select.proofs.Ending.{by_last}
+use Rattle.cmm_effects.proofs.Shared.{adds_then, adds_weaker, by_last, leads_weaker}
 use Rattle.cmm_select.proofs.Gathering.{eight_bytes, loads_joined, parts}
 use Rattle.cmm_select.specs.Memory.{access_of}
 use Rattle.cmm_select.proofs.accesses.load_word.Goals as goal

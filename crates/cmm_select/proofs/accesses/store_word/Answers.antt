@@ -1,6 +1,5 @@
 use Rattle.std.proofs.Common.{arith}
-use Rattle.cmm_effects.proofs.Shared.{adds_weaker}
-use Rattle.cmm_select.proofs.Ending.{by_last}
+use Rattle.cmm_effects.proofs.Shared.{adds_weaker, by_last}
 use Rattle.cmm_select.proofs.Gathering.{parts, stores_scattered}
 use Rattle.cmm_select.specs.Memory.{access_of}
 use Rattle.cmm_select.proofs.accesses.store_word.Goals as goal

@@ -1,6 +1,5 @@
 use Rattle.std.proofs.Common.{◌+◌, ◌*◌, ◌∙◌, sym, arith}
-use Rattle.cmm_effects.proofs.Shared.{adds_then, adds_weaker, leads_weaker}
-use Rattle.cmm_select.proofs.Ending.{by_last}
+use Rattle.cmm_effects.proofs.Shared.{adds_then, adds_weaker, by_last, leads_weaker}
 use Rattle.cmm_select.proofs.SmallNumbers.{small_is}
 use Rattle.cmm_select.proofs.Putting.{assigns_binary}
 use Rattle.cmm_select.specs.Operators.{shifts_of}

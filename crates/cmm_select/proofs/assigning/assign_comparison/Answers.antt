@@ -1,6 +1,5 @@
 use Rattle.std.proofs.Common.{◌∙◌, sym, arith}
-use Rattle.cmm_effects.proofs.Shared.{adds_then, adds_weaker, leads_weaker}
-use Rattle.cmm_select.proofs.Ending.{by_last}
+use Rattle.cmm_effects.proofs.Shared.{adds_then, adds_weaker, by_last, leads_weaker}
 use Rattle.cmm_select.proofs.Putting.{assigns_comparison}
 use Rattle.cmm_select.proofs.SmallComparisons.{brought_by_four, compared_is}
 use Rattle.cmm_select.proofs.assigning.assign_comparison.Goals as goal

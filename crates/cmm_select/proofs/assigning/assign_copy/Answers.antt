@@ -1,6 +1,5 @@
 use Rattle.std.proofs.Common.{◌∙◌, sym, arith}
-use Rattle.cmm_effects.proofs.Shared.{adds_then, adds_weaker, leads_weaker}
-use Rattle.cmm_select.proofs.Ending.{by_last}
+use Rattle.cmm_effects.proofs.Shared.{adds_then, adds_weaker, by_last, leads_weaker}
 use Rattle.cmm_select.proofs.InPlace.{home_is, home_other}
 use Rattle.cmm_select.proofs.Putting.{copies_brought, copies_home}
 use Rattle.cmm_select.proofs.assigning.assign_copy.Goals as goal

@@ -1,6 +1,5 @@
 use Rattle.std.proofs.Common.{arith}
-use Rattle.cmm_effects.proofs.Shared.{adds_then, adds_weaker}
-use Rattle.cmm_select.proofs.Ending.{by_last}
+use Rattle.cmm_effects.proofs.Shared.{adds_then, adds_weaker, by_last}
 use Rattle.cmm_select.proofs.Putting.{copies_global}
 use Rattle.cmm_select.proofs.assigning.assign_global.Goals as goal
 

@@ -1,6 +1,5 @@
 use Rattle.std.proofs.Common.{◌+◌, arith}
-use Rattle.cmm_effects.proofs.Shared.{adds_then, adds_weaker, leads_weaker}
-use Rattle.cmm_select.proofs.Ending.{by_last}
+use Rattle.cmm_effects.proofs.Shared.{adds_then, adds_weaker, by_last, leads_weaker}
 use Rattle.cmm_select.proofs.Putting.{assigns_in_place}
 use Rattle.cmm_select.specs.Operators.{shifts_of}
 use Rattle.cmm_select.proofs.assigning.assign_plain.Goals as goal

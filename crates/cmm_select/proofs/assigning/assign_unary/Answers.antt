@@ -1,7 +1,6 @@
 use Rattle.std.proofs.Common.{arith}
 use Rattle.cmm_words.specs.Words.{value1}
-use Rattle.cmm_effects.proofs.Shared.{adds_then, adds_weaker, leads_weaker}
-use Rattle.cmm_select.proofs.Ending.{by_last}
+use Rattle.cmm_effects.proofs.Shared.{adds_then, adds_weaker, by_last, leads_weaker}
 use Rattle.cmm_select.proofs.Putting.{assigns_one}
 use Rattle.cmm_select.proofs.assigning.assign_unary.Goals as goal
 

@@ -1,6 +1,5 @@
 use Rattle.std.proofs.Common.{arith}
-use Rattle.cmm_effects.proofs.Shared.{adds_one, adds_weaker}
-use Rattle.cmm_select.proofs.Ending.{by_last}
+use Rattle.cmm_effects.proofs.Shared.{adds_one, adds_weaker, by_last}
 use Rattle.cmm_select.proofs.Accessing.{loads_cell}
 use Rattle.cmm_select.specs.inside.Accesses.{load_part}
 use Rattle.cmm_select.proofs.cell.load_cell.Goals as goal

@@ -1,6 +1,5 @@
 use Rattle.std.proofs.Common.{◌∙◌, sym, arith}
-use Rattle.cmm_effects.proofs.Shared.{adds_part, adds_weaker}
-use Rattle.cmm_select.proofs.Ending.{by_last}
+use Rattle.cmm_effects.proofs.Shared.{adds_part, adds_weaker, by_last}
 use Rattle.cmm_select.proofs.Deciding.{straight_branch, turned_branch}
 use Rattle.rv_asm.specs.declared.part.Part.TheVariants.{Branch}
 use Rattle.cmm_select.proofs.comparing.branch.Goals as goal

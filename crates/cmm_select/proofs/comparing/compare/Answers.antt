@@ -1,7 +1,6 @@
 use Rattle.std.proofs.Common.{◌≢◌, ◌∙◌, sym, arith, pos}
-use Rattle.cmm_effects.proofs.Shared.{adds_one, adds_then, adds_weaker, leads_weaker}
+use Rattle.cmm_effects.proofs.Shared.{adds_one, adds_then, adds_weaker, by_last, leads_weaker}
 use Rattle.cmm_effects.specs.Pieces.{Adds}
-use Rattle.cmm_select.proofs.Ending.{by_last}
 use Rattle.cmm_select.proofs.Places.{One}
 use Rattle.cmm_select.proofs.Telling.{contrary_is_plain, tells_contrary}
 use Rattle.rv_table.specs.declared.instruction.Instr.TheVariants.{Xori}

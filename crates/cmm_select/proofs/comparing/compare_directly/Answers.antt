@@ -1,6 +1,5 @@
 use Rattle.std.proofs.Common.{arith}
-use Rattle.cmm_effects.proofs.Shared.{adds_one, adds_weaker}
-use Rattle.cmm_select.proofs.Ending.{by_last}
+use Rattle.cmm_effects.proofs.Shared.{adds_one, adds_weaker, by_last}
 use Rattle.cmm_select.proofs.Telling.{tells_less}
 use Rattle.cmm_select.specs.inside.Comparing.{less_of}
 use Rattle.cmm_select.proofs.comparing.compare_directly.Goals as goal

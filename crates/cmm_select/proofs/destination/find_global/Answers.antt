@@ -1,8 +1,7 @@
 use Rattle.std.proofs.Common.{◌∷◌, ◌++◌, [], arith}
 use Rattle.rv_asm.specs.declared.part.Part.TheVariants.{Address}
 use Rattle.rv_table.specs.declared.instruction.Instr.TheVariants.{Add}
-use Rattle.cmm_effects.proofs.Shared.{adds_one, adds_part, adds_then, adds_weaker}
-use Rattle.cmm_select.proofs.Ending.{by_last}
+use Rattle.cmm_effects.proofs.Shared.{adds_one, adds_part, adds_then, adds_weaker, by_last}
 use Rattle.cmm_select.proofs.Symbols.{finds_global}
 use Rattle.cmm_select.proofs.destination.find_global.Goals as goal
 

@@ -1,6 +1,5 @@
 use Rattle.std.proofs.Common.{arith}
-use Rattle.cmm_effects.proofs.Shared.{adds_weaker, leads_weaker}
-use Rattle.cmm_select.proofs.Ending.{by_last}
+use Rattle.cmm_effects.proofs.Shared.{adds_weaker, by_last, leads_weaker}
 use Rattle.cmm_select.proofs.destination.put.Goals as goal
 
 pub returns-in-Place-clause-puts : goal.returns-in-Place-clause-puts

@@ -1,7 +1,6 @@
 use Rattle.std.proofs.Common.{arith, pos}
 use Rattle.rv_table.specs.declared.instruction.Instr.TheVariants.{Ld}
-use Rattle.cmm_effects.proofs.Shared.{adds_one, adds_then, adds_weaker}
-use Rattle.cmm_select.proofs.Ending.{by_last}
+use Rattle.cmm_effects.proofs.Shared.{adds_one, adds_then, adds_weaker, by_last}
 use Rattle.cmm_select.proofs.Symbols.{loads_global}
 use Rattle.cmm_select.proofs.destination.read_global.Goals as goal
 

@@ -1,6 +1,5 @@
 use Rattle.std.proofs.Common.{arith}
-use Rattle.cmm_effects.proofs.Shared.{adds_then, adds_weaker, turns_weaker}
-use Rattle.cmm_select.proofs.Ending.{by_last}
+use Rattle.cmm_effects.proofs.Shared.{adds_then, adds_weaker, by_last, turns_weaker}
 use Rattle.cmm_select.proofs.Turning.{decides}
 use Rattle.cmm_select.proofs.going.decide.Goals as goal
 

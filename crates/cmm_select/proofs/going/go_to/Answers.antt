@@ -1,7 +1,6 @@
 use Rattle.std.proofs.Common.{arith}
 use Rattle.rv_asm.specs.declared.part.Part.TheVariants.{Jump}
-use Rattle.cmm_effects.proofs.Shared.{adds_part, adds_weaker, turns_jump}
-use Rattle.cmm_select.proofs.Ending.{by_last}
+use Rattle.cmm_effects.proofs.Shared.{adds_part, adds_weaker, by_last, turns_jump}
 use Rattle.cmm_select.proofs.going.go_to.Goals as goal
 
 pub returns-clause-turns : goal.returns-clause-turns

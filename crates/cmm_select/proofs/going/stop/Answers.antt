@@ -1,7 +1,6 @@
 use Rattle.std.proofs.Common.{arith}
 use Rattle.rv_table.specs.declared.instruction.Instr.TheVariants.{Ebreak}
-use Rattle.cmm_effects.proofs.Shared.{adds_one, adds_weaker, breaks}
-use Rattle.cmm_select.proofs.Ending.{by_last}
+use Rattle.cmm_effects.proofs.Shared.{adds_one, adds_weaker, breaks, by_last}
 use Rattle.cmm_select.proofs.going.stop.Goals as goal
 
 pub returns-clause-traps : goal.returns-clause-traps

@@ -1,7 +1,6 @@
 use Rattle.std.proofs.Common.{arith, pos}
 use Rattle.rv_table.specs.declared.instruction.Instr.TheVariants.{Addi, Ecall}
-use Rattle.cmm_effects.proofs.Shared.{adds_one, adds_then, adds_weaker}
-use Rattle.cmm_select.proofs.Ending.{by_last}
+use Rattle.cmm_effects.proofs.Shared.{adds_one, adds_then, adds_weaker, by_last}
 use Rattle.cmm_select.proofs.Asking.{asks_to_put}
 use Rattle.cmm_select.proofs.Chains.{also}
 use Rattle.cmm_select.proofs.host.put_byte.Goals as goal

@@ -1,7 +1,6 @@
 use Rattle.std.proofs.Common.{◌≡◌, ◌∷◌, ◌++◌, [], ◌∙◌, sym, arith, true}
-use Rattle.cmm_effects.proofs.Shared.{adds_one, adds_then, adds_weaker}
+use Rattle.cmm_effects.proofs.Shared.{adds_one, adds_then, adds_weaker, by_last}
 use Rattle.rv_asm.specs.declared.part.Part.TheVariants.{Single}
-use Rattle.cmm_select.proofs.Ending.{by_last}
 use Rattle.cmm_select.proofs.SmallComparisons.{positive_is, tells_none, tells_once, tells_twice}
 use Rattle.cmm_select.specs.inside.Comparing.{is_positive}
 use Rattle.cmm_select.specs.inside.Immediates.{first_comparing}

@@ -1,6 +1,5 @@
 use Rattle.std.proofs.Common.{◌≡◌, ◌≢◌, ◌∙◌, sym, arith, true, false}
-use Rattle.cmm_effects.proofs.Shared.{adds_then, adds_weaker}
-use Rattle.cmm_select.proofs.Ending.{by_last}
+use Rattle.cmm_effects.proofs.Shared.{adds_then, adds_weaker, by_last}
 use Rattle.cmm_select.proofs.Deciding.{needs_both, needs_none, with_their_sign}
 use Rattle.cmm_select.proofs.SmallComparisons.{compared_small, tells_plain, tells_signed}
 use Rattle.cmm_select.specs.inside.Comparing.{needs_signs}

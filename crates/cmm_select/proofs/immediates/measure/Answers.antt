@@ -1,8 +1,7 @@
 use Rattle.std.proofs.Common.{arith, pos, ◌-ℤ◌}
 use Rattle.rv_table.specs.declared.instruction.Instr.TheVariants.{Addi, Sub}
-use Rattle.cmm_effects.proofs.Shared.{adds_one, adds_then, adds_weaker}
+use Rattle.cmm_effects.proofs.Shared.{adds_one, adds_then, adds_weaker, by_last}
 use Rattle.cmm_effects.specs.Pieces.{Adds}
-use Rattle.cmm_select.proofs.Ending.{by_last}
 use Rattle.cmm_select.proofs.Constants.{eight_at_most}
 use Rattle.cmm_select.proofs.Places.{One}
 use Rattle.cmm_select.proofs.Ranging.{measures_loaded, measures_small}

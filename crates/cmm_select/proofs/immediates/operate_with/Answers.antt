@@ -1,7 +1,6 @@
 use Rattle.std.proofs.Common.{◌≡◌, ◌≢◌, ◌∙◌, sym, arith, true, false}
-use Rattle.cmm_effects.proofs.Shared.{adds_one, adds_then, adds_weaker, leads_weaker}
+use Rattle.cmm_effects.proofs.Shared.{adds_one, adds_then, adds_weaker, by_last, leads_weaker}
 use Rattle.cmm_effects.specs.Pieces.{Adds}
-use Rattle.cmm_select.proofs.Ending.{by_last}
 use Rattle.cmm_select.proofs.SmallNumbers.{does_small, signed_small_cut, small_cut}
 use Rattle.cmm_select.proofs.Operating.{cut_makes, signed_makes}
 use Rattle.cmm_select.proofs.Places.{One}

@@ -1,6 +1,5 @@
 use Rattle.std.proofs.Common.{◌∙◌, sym, arith}
-use Rattle.cmm_effects.proofs.Shared.{adds_none, adds_weaker}
-use Rattle.cmm_select.proofs.Ending.{by_last}
+use Rattle.cmm_effects.proofs.Shared.{adds_none, adds_weaker, by_last}
 use Rattle.cmm_select.proofs.InPlace.{finishes_put, finishes_there}
 use Rattle.cmm_select.proofs.in_place.finish.Goals as goal
 

@@ -2,9 +2,8 @@ use Rattle.std.proofs.Common.{◌+◌, ◌-◌, ◌*◌, length, refl, arith, po
 use Rattle.rv_asm.specs.Parts.{Does}
 use Rattle.rv_asm.specs.declared.part.Part.TheVariants.{Table}
 use Rattle.rv_table.specs.declared.instruction.Instr.TheVariants.{Add, Auipc, Jalr, Slli}
-use Rattle.cmm_effects.proofs.Shared.{adds_one, adds_part, adds_then, adds_weaker}
+use Rattle.cmm_effects.proofs.Shared.{adds_one, adds_part, adds_then, adds_weaker, by_last}
 use Rattle.cmm_effects.specs.Pieces.{Adds}
-use Rattle.cmm_select.proofs.Ending.{by_last}
 use Rattle.cmm_select.proofs.Places.{One}
 use Rattle.cmm_select.proofs.Tabled.{goes_by_table}
 use Rattle.cmm_select.proofs.jump_table.jump_by_table.Goals as goal

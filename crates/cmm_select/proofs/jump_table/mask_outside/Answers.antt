@@ -1,8 +1,7 @@
 use Rattle.std.proofs.Common.{arith, pos, negsuc, ◌-ℤ◌}
 use Rattle.rv_table.specs.declared.instruction.Instr.TheVariants.{Addi, And, Sltiu}
-use Rattle.cmm_effects.proofs.Shared.{adds_one, adds_then, adds_weaker}
+use Rattle.cmm_effects.proofs.Shared.{adds_one, adds_then, adds_weaker, by_last}
 use Rattle.cmm_effects.specs.Pieces.{Adds}
-use Rattle.cmm_select.proofs.Ending.{by_last}
 use Rattle.cmm_select.proofs.Places.{One}
 use Rattle.cmm_select.proofs.Tabled.{masks}
 use Rattle.cmm_select.proofs.jump_table.mask_outside.Goals as goal

@@ -1,8 +1,7 @@
 use Rattle.std.proofs.Common.{◌≡◌, ◌-◌, ◌*◌, ◌∙◌, sym, arith, true}
 use Rattle.std.specs.Prelude.{◌==◌}
 use Rattle.std.proofs.lemmas.Bool.Decides.{nat_tests}
-use Rattle.cmm_effects.proofs.Shared.{adds_then, adds_weaker, leads_weaker}
-use Rattle.cmm_select.proofs.Ending.{by_last}
+use Rattle.cmm_effects.proofs.Shared.{adds_then, adds_weaker, by_last, leads_weaker}
 use Rattle.cmm_select.proofs.Loading.{stores_at, stores_word}
 use Rattle.cmm_select.specs.Memory.{accesses}
 use Rattle.cmm_select.proofs.memory.store.Goals as goal

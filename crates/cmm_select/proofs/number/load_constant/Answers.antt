@@ -1,4 +1,4 @@
-use Rattle.cmm_select.proofs.Ending.{by_last}
+use Rattle.cmm_effects.proofs.Shared.{by_last}
 use Rattle.cmm_select.proofs.Constants.{counted, eight_for, four_for}
 use Rattle.cmm_select.proofs.number.load_constant.Goals as goal
 

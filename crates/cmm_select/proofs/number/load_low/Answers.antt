@@ -2,8 +2,7 @@ use Rattle.std.proofs.Common.{◌∷◌, ◌++◌, [], ◌+◌, ◌/◌, arith, 
 use Rattle.rv_asm.specs.declared.part.Part.TheVariants.{Single}
 use Rattle.rv_table.specs.Words.{signed}
 use Rattle.rv_table.specs.declared.instruction.Instr.TheVariants.{Addi, Lui}
-use Rattle.cmm_effects.proofs.Shared.{adds_one, adds_then, adds_weaker}
-use Rattle.cmm_select.proofs.Ending.{by_last}
+use Rattle.cmm_effects.proofs.Shared.{adds_one, adds_then, adds_weaker, by_last}
 use Rattle.cmm_select.proofs.Constants.{sets_low, sets_small}
 use Rattle.cmm_select.proofs.number.load_low.Goals as goal
 

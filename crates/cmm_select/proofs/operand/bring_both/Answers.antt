@@ -1,6 +1,5 @@
 use Rattle.std.proofs.Common.{arith}
-use Rattle.cmm_effects.proofs.Shared.{adds_then, adds_weaker}
-use Rattle.cmm_select.proofs.Ending.{by_last}
+use Rattle.cmm_effects.proofs.Shared.{adds_then, adds_weaker, by_last}
 use Rattle.cmm_select.proofs.Both.{brings_both}
 use Rattle.cmm_select.proofs.operand.bring_both.Goals as goal
 

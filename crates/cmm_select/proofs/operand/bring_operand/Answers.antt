@@ -1,6 +1,5 @@
 use Rattle.std.proofs.Common.{arith}
-use Rattle.cmm_effects.proofs.Shared.{adds_weaker, leads_weaker}
-use Rattle.cmm_select.proofs.Ending.{by_last}
+use Rattle.cmm_effects.proofs.Shared.{adds_weaker, by_last, leads_weaker}
 use Rattle.cmm_select.proofs.Symbols.{brings_set}
 use Rattle.cmm_select.specs.Sources.{brought}
 use Rattle.cmm_select.proofs.operand.bring_operand.Goals as goal

@@ -1,8 +1,7 @@
 use Rattle.std.proofs.Common.{◌∷◌, ◌++◌, [], arith}
 use Rattle.rv_asm.specs.declared.part.Part.TheVariants.{Address}
 use Rattle.rv_table.specs.declared.instruction.Instr.TheVariants.{Add}
-use Rattle.cmm_effects.proofs.Shared.{adds_one, adds_part, adds_then, adds_weaker, leads_weaker}
-use Rattle.cmm_select.proofs.Ending.{by_last}
+use Rattle.cmm_effects.proofs.Shared.{adds_one, adds_part, adds_then, adds_weaker, by_last, leads_weaker}
 use Rattle.cmm_select.proofs.Constants.{eight_at_most}
 use Rattle.cmm_select.proofs.Symbols.{brings_address, brings_address_on}
 use Rattle.cmm_select.proofs.operand.bring_symbol.Goals as goal

@@ -1,7 +1,6 @@
 use Rattle.std.proofs.Common.{arith, pos}
 use Rattle.rv_table.specs.declared.instruction.Instr.TheVariants.{Addi}
-use Rattle.cmm_effects.proofs.Shared.{adds_one, adds_weaker}
-use Rattle.cmm_select.proofs.Ending.{by_last}
+use Rattle.cmm_effects.proofs.Shared.{adds_one, adds_weaker, by_last}
 use Rattle.cmm_select.proofs.Widths.{cuts_8, cuts_16, cuts_32, cuts_64}
 use Rattle.cmm_select.proofs.operator.cut.Goals as goal
 

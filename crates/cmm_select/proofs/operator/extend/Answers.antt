@@ -1,6 +1,5 @@
 use Rattle.std.proofs.Common.{◌≡◌, arith}
-use Rattle.cmm_effects.proofs.Shared.{adds_none, adds_weaker, runs_of, runs_weaker}
-use Rattle.cmm_select.proofs.Ending.{by_last}
+use Rattle.cmm_effects.proofs.Shared.{adds_none, adds_weaker, by_last, runs_of, runs_weaker}
 use Rattle.cmm_select.proofs.Widths.{extends_none, two_shifts}
 use Rattle.cmm_select.specs.Operators.{shifts_of}
 use Rattle.cmm_select.proofs.operator.extend.Goals as goal

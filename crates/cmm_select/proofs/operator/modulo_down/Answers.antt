@@ -1,7 +1,6 @@
 use Rattle.std.proofs.Common.{◌+◌, arith}
 use Rattle.cmm_words.specs.declared.operators.Op2.TheVariants as op
-use Rattle.cmm_effects.proofs.Shared.{adds_then, adds_weaker, runs_of, runs_weaker}
-use Rattle.cmm_select.proofs.Ending.{by_last}
+use Rattle.cmm_effects.proofs.Shared.{adds_then, adds_weaker, by_last, runs_of, runs_weaker}
 use Rattle.cmm_select.proofs.Operating.{both_signed, signed_operates}
 use Rattle.cmm_select.specs.Operators.{shifts_of}
 use Rattle.cmm_select.proofs.operator.modulo_down.Goals as goal

@@ -1,6 +1,5 @@
 use Rattle.std.proofs.Common.{◌∙◌, sym, arith}
-use Rattle.cmm_effects.proofs.Shared.{adds_weaker, runs_of, runs_weaker}
-use Rattle.cmm_select.proofs.Ending.{by_last}
+use Rattle.cmm_effects.proofs.Shared.{adds_weaker, by_last, runs_of, runs_weaker}
 use Rattle.cmm_select.proofs.Methods.{by_copies, by_left, by_plain, by_quotient, by_remainder, by_right, by_shift, by_signed}
 use Rattle.cmm_select.proofs.Wide.{makes_operates}
 use Rattle.cmm_select.proofs.operator.operate.Goals as goal

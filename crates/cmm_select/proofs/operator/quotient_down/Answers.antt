@@ -1,7 +1,6 @@
 use Rattle.std.proofs.Common.{arith, pos}
 use Rattle.rv_table.specs.declared.instruction.Instr.TheVariants.{Div, Mulh, Rem, Srli, Sub}
-use Rattle.cmm_effects.proofs.Shared.{adds_weaker}
-use Rattle.cmm_select.proofs.Ending.{by_last}
+use Rattle.cmm_effects.proofs.Shared.{adds_weaker, by_last}
 use Rattle.cmm_select.proofs.Chains.{adds_five}
 use Rattle.cmm_select.proofs.Rounding.{does_div}
 use Rattle.cmm_select.proofs.operator.quotient_down.Goals as goal

@@ -1,7 +1,6 @@
 use Rattle.std.proofs.Common.{arith, pos}
 use Rattle.rv_table.specs.declared.instruction.Instr.TheVariants.{Add, Mul, Mulh, Rem, Srli}
-use Rattle.cmm_effects.proofs.Shared.{adds_weaker}
-use Rattle.cmm_select.proofs.Ending.{by_last}
+use Rattle.cmm_effects.proofs.Shared.{adds_weaker, by_last}
 use Rattle.cmm_select.proofs.Chains.{adds_five}
 use Rattle.cmm_select.proofs.Rounding.{does_mod}
 use Rattle.cmm_select.proofs.operator.remainder_down.Goals as goal

@@ -2,9 +2,8 @@ use Rattle.std.proofs.Common.{◌-◌, arith, negsuc, pos}
 use Rattle.cmm_words.specs.Widths.{bits}
 use Rattle.cmm_words.specs.declared.operators.Op2.TheVariants as op
 use Rattle.rv_table.specs.declared.instruction.Instr.TheVariants.{Addi, Andi, Or, Sll, Srl, Sub}
-use Rattle.cmm_effects.proofs.Shared.{adds_then, adds_weaker, runs_of, runs_weaker}
+use Rattle.cmm_effects.proofs.Shared.{adds_then, adds_weaker, by_last, runs_of, runs_weaker}
 use Rattle.cmm_effects.specs.Pieces.{Adds}
-use Rattle.cmm_select.proofs.Ending.{by_last}
 use Rattle.cmm_select.proofs.Chains.{adds_six}
 use Rattle.cmm_select.proofs.Operating.{uncut_operates}
 use Rattle.cmm_select.proofs.Rotating.{Rotation, rotates_right}

@@ -2,9 +2,8 @@ use Rattle.std.proofs.Common.{◌∷◌, ◌++◌, [], arith, pos}
 use Rattle.rv_asm.specs.Appending.{Then}
 use Rattle.rv_asm.specs.declared.part.Part.TheVariants.{Single}
 use Rattle.rv_table.specs.declared.instruction.Instr.TheVariants.{Mul, Sltiu}
-use Rattle.cmm_effects.proofs.Shared.{adds_one, adds_then, adds_weaker, runs_of}
+use Rattle.cmm_effects.proofs.Shared.{adds_one, adds_then, adds_weaker, by_last, runs_of}
 use Rattle.cmm_effects.specs.Pieces.{Adds}
-use Rattle.cmm_select.proofs.Ending.{by_last}
 use Rattle.cmm_select.proofs.Operating.{cut_operates, shift_cut}
 use Rattle.cmm_select.proofs.Places.{One}
 use Rattle.cmm_select.proofs.Shifting.{does_shift}

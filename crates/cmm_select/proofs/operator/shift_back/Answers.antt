@@ -1,8 +1,7 @@
 use Rattle.std.proofs.Common.{◌∷◌, ◌++◌, [], arith, pos}
 use Rattle.rv_asm.specs.declared.part.Part.TheVariants.{Single}
 use Rattle.rv_table.specs.declared.instruction.Instr.TheVariants.{Slli, Srai}
-use Rattle.cmm_effects.proofs.Shared.{adds_one, adds_then, adds_weaker}
-use Rattle.cmm_select.proofs.Ending.{by_last}
+use Rattle.cmm_effects.proofs.Shared.{adds_one, adds_then, adds_weaker, by_last}
 use Rattle.cmm_select.proofs.Widths.{shifts_back}
 use Rattle.cmm_select.proofs.operator.shift_back.Goals as goal
 

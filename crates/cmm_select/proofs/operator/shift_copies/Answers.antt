@@ -1,7 +1,6 @@
 use Rattle.std.proofs.Common.{arith, negsuc, pos}
 use Rattle.rv_table.specs.declared.instruction.Instr.TheVariants.{Addi, Sltiu, Sra}
-use Rattle.cmm_effects.proofs.Shared.{adds_weaker}
-use Rattle.cmm_select.proofs.Ending.{by_last}
+use Rattle.cmm_effects.proofs.Shared.{adds_weaker, by_last}
 use Rattle.cmm_select.proofs.Chains.{adds_four}
 use Rattle.cmm_select.proofs.Signs.{does_shra}
 use Rattle.cmm_select.proofs.operator.shift_copies.Goals as goal

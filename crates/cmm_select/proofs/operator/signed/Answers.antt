@@ -1,7 +1,6 @@
 use Rattle.std.proofs.Common.{◌+◌, arith}
-use Rattle.cmm_effects.proofs.Shared.{adds_one, adds_then, adds_weaker, runs_of, runs_weaker}
+use Rattle.cmm_effects.proofs.Shared.{adds_one, adds_then, adds_weaker, by_last, runs_of, runs_weaker}
 use Rattle.cmm_effects.specs.Pieces.{Adds}
-use Rattle.cmm_select.proofs.Ending.{by_last}
 use Rattle.cmm_select.proofs.Operating.{both_signed, signed_cut, signed_operates}
 use Rattle.cmm_select.proofs.Places.{One}
 use Rattle.cmm_select.proofs.Wide.{does_signed, operates_leads}

@@ -1,7 +1,6 @@
 use Rattle.std.proofs.Common.{arith, pos}
 use Rattle.rv_table.specs.declared.instruction.Instr.TheVariants.{Addi}
-use Rattle.cmm_effects.proofs.Shared.{adds_one, adds_weaker, leads_weaker}
-use Rattle.cmm_select.proofs.Ending.{by_last}
+use Rattle.cmm_effects.proofs.Shared.{adds_one, adds_weaker, by_last, leads_weaker}
 use Rattle.cmm_select.proofs.Places.{copies}
 use Rattle.cmm_select.proofs.place.read.Goals as goal
 

@@ -2,8 +2,7 @@ use Rattle.std.proofs.Common.{arith, pos, subst}
 use Rattle.cmm_chain.proofs.Shared.{callee_saves_is_written, temporary_is_written}
 use Rattle.cmm_effects.specs.Changes.{IsPlace}
 use Rattle.rv_table.specs.declared.instruction.Instr.TheVariants.{Addi}
-use Rattle.cmm_effects.proofs.Shared.{adds_one, adds_weaker, leads_weaker}
-use Rattle.cmm_select.proofs.Ending.{by_last}
+use Rattle.cmm_effects.proofs.Shared.{adds_one, adds_weaker, by_last, leads_weaker}
 use Rattle.cmm_select.proofs.Places.{puts_register}
 use Rattle.cmm_select.proofs.place.write.Goals as goal
 

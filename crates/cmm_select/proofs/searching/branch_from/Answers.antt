@@ -1,8 +1,7 @@
 use Rattle.std.proofs.Common.{arith}
 use Rattle.cmm_words.specs.declared.operators.Cmp.TheVariants.{Geu}
 use Rattle.rv_asm.specs.declared.part.Part.TheVariants.{Branch}
-use Rattle.cmm_effects.proofs.Shared.{adds_part, adds_then, adds_weaker}
-use Rattle.cmm_select.proofs.Ending.{by_last}
+use Rattle.cmm_effects.proofs.Shared.{adds_part, adds_then, adds_weaker, by_last}
 use Rattle.cmm_select.proofs.Constants.{eight_at_most}
 use Rattle.cmm_select.proofs.Halving.{goes_from}
 use Rattle.cmm_select.specs.Operands.{most_for_number}

@@ -3,9 +3,8 @@ use Rattle.std.specs.List.{All}
 use Rattle.std.proofs.lemmas.List.{length-map}
 use Rattle.rv_asm.specs.Assembly.{IsInner}
 use Rattle.rv_asm.specs.declared.part.Label.{Label}
-use Rattle.cmm_effects.proofs.Shared.{adds_weaker}
+use Rattle.cmm_effects.proofs.Shared.{adds_weaker, by_last}
 use Rattle.cmm_effects.specs.Pieces.{Adds}
-use Rattle.cmm_select.proofs.Ending.{by_last}
 use Rattle.cmm_select.proofs.Halving.{goes_by_run}
 use Rattle.cmm_select.proofs.Spans.{all_labels}
 use Rattle.cmm_select.specs.inside.NumberRuns.{GoesInRun}

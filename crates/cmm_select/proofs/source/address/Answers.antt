@@ -1,8 +1,7 @@
 use Rattle.std.proofs.Common.{arith, pos}
 use Rattle.rv_table.specs.Words.{signed}
 use Rattle.rv_table.specs.declared.instruction.Instr.TheVariants.{Addi}
-use Rattle.cmm_effects.proofs.Shared.{adds_one, adds_then, adds_weaker}
-use Rattle.cmm_select.proofs.Ending.{by_last}
+use Rattle.cmm_effects.proofs.Shared.{adds_one, adds_then, adds_weaker, by_last}
 use Rattle.cmm_select.proofs.Operands.{address_far, address_near}
 use Rattle.cmm_select.proofs.source.address.Goals as goal
 

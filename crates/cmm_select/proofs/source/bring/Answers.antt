@@ -1,6 +1,5 @@
 use Rattle.std.proofs.Common.{arith}
-use Rattle.cmm_effects.proofs.Shared.{adds_weaker, leads_weaker}
-use Rattle.cmm_select.proofs.Ending.{by_last}
+use Rattle.cmm_effects.proofs.Shared.{adds_weaker, by_last, leads_weaker}
 use Rattle.cmm_select.proofs.source.bring.Goals as goal
 
 pub returns-in-Place-clause-brings : goal.returns-in-Place-clause-brings

@@ -1,7 +1,6 @@
 use Rattle.std.proofs.Common.{◌≢◌, arith}
-use Rattle.cmm_effects.proofs.Shared.{adds_one, adds_then, adds_weaker}
+use Rattle.cmm_effects.proofs.Shared.{adds_one, adds_then, adds_weaker, by_last}
 use Rattle.cmm_effects.specs.Pieces.{Adds}
-use Rattle.cmm_select.proofs.Ending.{by_last}
 use Rattle.cmm_select.proofs.Converting.{cut_makes_one, cut_of_one, does_direct}
 use Rattle.cmm_select.proofs.Places.{One}
 use Rattle.cmm_select.specs.Operators.{shifts_of}
