@@ -20,6 +20,7 @@ use Rattle.cmm_graph.specs.declared.node.Node.{Node}
 use Rattle.cmm_graph.specs.declared.node.NodeKind.{NodeKind}
 use Rattle.cmm_graph.specs.declared.node.NodeKind.TheVariants.{Entry, CopyIn, Assign, Store, Branch, Switch, Call, Yield, Jump, Cut, Return, Host, Goto, Stop}
 use Rattle.cmm_graph.specs.declared.number.NodeId.{NodeId}
+use Rattle.cmm_graph.specs.declared.number.SiteId.{SiteId}
 use Rattle.cmm_graph.specs.declared.operand.Destination.{Destination}
 use Rattle.cmm_graph.specs.declared.operand.Destination.TheVariants as destination
 use Rattle.cmm_graph.specs.declared.operand.Local.{Local}
@@ -33,6 +34,23 @@ use Rattle.cmm_graph.specs.Paths.{node_of, operands_of_rvalue}
 use Rattle.cmm_graph.specs.Ranges.{IsValid, are_exits, is_argument, is_arm, is_continuation, is_copy_in, is_destination, is_entry, is_host, is_kind, is_local, is_node, is_normal, is_operand, is_rvalue, is_step, is_target, is_test, is_variable, leads_to}
 use Rattle.cmm_fold.specs.Graphs.{GraphStandsFor, KindStandsFor, NodeStandsFor}
 use Rattle.cmm_folded.proofs.Nodes.{IsBlind, MayStand, facts_through, kind_same, node_stands, tests_through}
+
+-- a node keeps its site where landings stay what they were
+module _ (old new : Graph) (same : taken_at new ≡ taken_at old) where
+  exits_of_same : (q : Proc) (n : SiteId) (e : Exits) → AreExitsOf q old n e → AreExitsOf q new n e
+  exits_of_same q n e is = record {
+    site = is.site;
+    is_site = is.is_site;
+    normal = ap (λ f. with_some e.normal f) same ∙ is.normal;
+    returns = is.returns;
+    unwinds = is.unwinds;
+    cuts = is.cuts;
+  }
+
+  pub site_of_same : (q : Proc) (kind : NodeKind) → HasSite q old kind → HasSite q new kind
+  site_of_same q (Call site callee arguments exits) has = exits_of_same q site exits has
+  site_of_same q (Yield site values exits) has = exits_of_same q site exits has
+  site_of_same q kind has = tt
 
 module _ (old new : Graph) (stands : GraphStandsFor old new) where
   -- ---- what stands at a node
@@ -198,26 +216,11 @@ module _ (old new : Graph) (stands : GraphStandsFor old new) where
 
   -- ---- sites and names
 
-  exits_after : (q : Proc) (n : _) (e : Exits) → AreExitsOf q old n e → AreExitsOf q new n e
-  exits_after q n e is = record {
-    site = is.site;
-    is_site = is.is_site;
-    normal = ap (λ f. with_some e.normal f) taken_same ∙ is.normal;
-    returns = is.returns;
-    unwinds = is.unwinds;
-    cuts = is.cuts;
-  }
-
-  site_in_new : (q : Proc) (kind : NodeKind) → HasSite q old kind → HasSite q new kind
-  site_in_new q (Call site callee arguments exits) has = exits_after q site exits has
-  site_in_new q (Yield site values exits) has = exits_after q site exits has
-  site_in_new q kind has = tt
-
   pub has_site : (q : Proc) (a b : Node) → NodeStandsFor a b → HasSite q old a.kind → HasSite q new b.kind
   has_site q a b node has = by node.kind
     where
       by : KindStandsFor a.kind b.kind → HasSite q new b.kind
-      by (inl e) = subst (HasSite q new) (sym e) (site_in_new q a.kind has)
+      by (inl e) = subst (HasSite q new) (sym e) (site_of_same old new taken_same q a.kind has)
       by (inr s) = subst (HasSite q new) (sym s.is) tt
 
   -- a test that is made weaker before another, and one that is the same after it

@@ -3,7 +3,6 @@ use Rattle.std.proofs.Common.{◌≡◌, ◌⊎◌, ℕ, zero, suc, ◌+◌, ◌
 use Rattle.std.proofs.Math.Path.{fun_ext}
 use Rattle.std.proofs.lemmas.Bool.{and_from, and_parts}
 use Rattle.std.proofs.lemmas.Bool.Decides.{nat_tests}
-use Rattle.std.proofs.lemmas.List.Folds.{list_all-map}
 use Rattle.std.proofs.lemmas.Option.{slice_get_within}
 use Rattle.std.specs.Prelude.{◌&&◌, nat_lt, slice_get, Contains, IsTrue, Option, Some}
 use Rattle.std.specs.List.{All, list_all}
@@ -11,81 +10,31 @@ use Rattle.cmm_words.specs.declared.constant.Constant.{Constant}
 use Rattle.cmm_program.specs.declared.procedure.Proc.{Proc}
 use Rattle.cmm_program.specs.declared.program.Program.{Program}
 use Rattle.cmm_program.specs.Errors.{with_some}
-use Rattle.cmm_program.specs.Typing.{is_alignment}
 use Rattle.cmm_program.specs.Typing as typing
 use Rattle.cmm_program.proofs.Shared.{all_get, list_all_get}
 use Rattle.cmm_graph.specs.declared.graph.Graph.{Graph}
-use Rattle.cmm_graph.specs.declared.node.Exits.{Exits}
-use Rattle.cmm_graph.specs.declared.node.HostCall.TheVariants.{PutByte, GetByte}
 use Rattle.cmm_graph.specs.declared.node.Node.{Node}
 use Rattle.cmm_graph.specs.declared.node.NodeKind.{NodeKind}
-use Rattle.cmm_graph.specs.declared.node.NodeKind.TheVariants.{Entry, CopyIn, Assign, Store, Branch, Switch, Call, Yield, Jump, Cut, Return, Host, Goto, Stop}
+use Rattle.cmm_graph.specs.declared.node.NodeKind.TheVariants.{Entry}
 use Rattle.cmm_graph.specs.declared.number.NodeId.{NodeId}
-use Rattle.cmm_graph.specs.declared.number.SiteId.{SiteId}
-use Rattle.cmm_graph.specs.declared.operand.Argument.{Argument}
 use Rattle.cmm_graph.specs.declared.operand.Comparison.{Comparison}
 use Rattle.cmm_graph.specs.declared.operand.Operand.{Operand}
 use Rattle.cmm_graph.specs.declared.operand.Operand.TheVariants as operand
 use Rattle.cmm_graph.specs.declared.operand.Rvalue.{Rvalue}
-use Rattle.cmm_graph.specs.declared.operand.Rvalue.TheVariants as rvalue
-use Rattle.cmm_graph.specs.Counterpart.{AreExitsOf, HasSite, IsGraphOf, formals_of, names_operand, names_rvalue, names_there, reads_registers, taken_at, taken_by, targets, targets_of_destination}
-use Rattle.cmm_graph.specs.Paths.{node_of, operands, operands_of_rvalue, operands_of_test, values_of}
-use Rattle.cmm_graph.specs.Ranges.{IsValid, is_argument, is_constant, is_copy_in, is_entry, is_kind, is_node, is_operand, is_rvalue, is_step, is_variable, leads_to}
+use Rattle.cmm_graph.specs.Counterpart.{HasSite, IsGraphOf, formals_of, names_operand, names_rvalue, names_there, reads_registers, taken_at, taken_by, targets, targets_of_destination}
+use Rattle.cmm_graph.specs.Paths.{node_of, operands, operands_of_rvalue, operands_of_test}
+use Rattle.cmm_graph.specs.Ranges.{IsValid, is_constant, is_copy_in, is_entry, is_kind, is_node, is_operand, is_step, is_variable, leads_to}
 use Rattle.cmm_hoist.specs.Graphs.{EntryIsCovered, IsHoistedFrom, all_operands, chain_start, keeping_node}
 use Rattle.cmm_hoist.specs.Keeping.{Assigns, Branches, Compares, Computes, Copies, KindStandsFor, Loads, NodeStandsFor, SameKind, SameRvalue, Stores, TestStandsFor, Tests}
 use Rattle.cmm_hoisted.proofs.Lists.{get_within, list_all-flat_map, list_all_contains, list_all_from}
 use Rattle.cmm_hoisted.proofs.Nodes.{IsBlind, facts_through, keeper_there, lead, may_same, new_entry, old_entry, start_is, tests_through}
 use Rattle.cmm_hoisted.proofs.Ranges.{Operands, Values, copy_same, entry_same, kept_below, kind_after, seen_same, step_more, steps, variable_same}
 use Rattle.cmm_hoisted.proofs.Tests.{both_more}
-
--- ---- the operands of a node in range are
+use Rattle.cmm_folded.proofs.Shared.{site_of_same}
+use Rattle.cmm_hoisted.proofs.Operands.{kind_operands}
 
 only : (b : Bool) → IsTrue b → IsTrue (b && true)
 only b is = and_from b true is refl
-
-module _ (g : Graph) where
-  two_operands : (a b : Operand) → IsTrue (is_operand g a && is_operand g b) → IsTrue (list_all (is_operand g) (a ∷ b ∷ []))
-  two_operands a b there =
-      let parts = and_parts (is_operand g a) (is_operand g b) there in
-      and_from (is_operand g a) (is_operand g b && true) parts.0 (only (is_operand g b) parts.1)
-
-  values_there : (arguments : List Argument) → IsTrue (list_all (is_argument g) arguments) → IsTrue (list_all (is_operand g) (values_of arguments))
-  values_there arguments there = list_all-map (is_operand g) (λ (a : Argument). a.value) arguments ∙ there
-
-  with_values : (o : Operand) (arguments : List Argument) → IsTrue (is_operand g o && list_all (is_argument g) arguments) →
-      IsTrue (list_all (is_operand g) (o ∷ values_of arguments))
-  with_values o arguments =
-      both_more (is_operand g o) (list_all (is_argument g) arguments) (is_operand g o) (list_all (is_operand g) (values_of arguments)) (λ is. is)
-      (values_there arguments)
-
-  rvalue_operands : (r : Rvalue) → IsTrue (is_rvalue g r) → IsTrue (list_all (is_operand g) (operands_of_rvalue r))
-  rvalue_operands (rvalue.Copy o) there = only _ there
-  rvalue_operands (rvalue.Register r) there = refl
-  rvalue_operands (rvalue.Load width aligned address) there = only _ ((and_parts _ _ there).1)
-  rvalue_operands (rvalue.Unary operator width o) there = only _ there
-  rvalue_operands (rvalue.Binary operator width left right) there = two_operands left right there
-  rvalue_operands (rvalue.Compare c) there = two_operands c.left c.right there
-  rvalue_operands (rvalue.SignExtend from to o) there = only _ ((and_parts _ _ there).1)
-  rvalue_operands (rvalue.LowBits from to o) there = only _ ((and_parts _ _ there).1)
-
-  kind_operands : (kind : NodeKind) → IsTrue (is_kind g kind) → IsTrue (list_all (is_operand g) (operands kind))
-  kind_operands (Entry formals next) there = refl
-  kind_operands (CopyIn to next) there = refl
-  kind_operands (Assign to value next) there = rvalue_operands value (and_parts _ _ (and_parts _ _ there).0).1
-  kind_operands (Store width aligned address value next) there =
-      let both = and_parts (is_alignment aligned && is_operand g address) (is_operand g value) (and_parts _ (leads_to g is_step next) there).0 in
-      two_operands address value (and_from (is_operand g address) (is_operand g value) (and_parts (is_alignment aligned) _ both.0).1 both.1)
-  kind_operands (Branch test then_ otherwise) there = two_operands test.left test.right (and_parts _ _ (and_parts _ _ there).0).0
-  kind_operands (Switch value arms otherwise) there = only _ (and_parts _ _ (and_parts _ _ there).0).0
-  kind_operands (Call site callee arguments exits) there = with_values callee arguments (and_parts _ _ there).0
-  kind_operands (Yield site values exits) there = (and_parts _ _ there).0
-  kind_operands (Jump callee arguments) there = with_values callee arguments there
-  kind_operands (Cut to arguments own) there = with_values to arguments (and_parts _ _ there).0
-  kind_operands (Return exit alternates results) there = values_there results (and_parts _ _ there).1
-  kind_operands (Host (PutByte value) next) there = only _ (and_parts _ _ there).0
-  kind_operands (Host (GetByte to) next) there = refl
-  kind_operands (Goto next) there = refl
-  kind_operands Stop there = refl
 
 -- ---- constants that are kept
 
@@ -174,26 +123,11 @@ module _ (old new : Graph) (is : IsHoistedFrom old new) where
       seen_same old new is (λ (o : Option Node). with_some o (λ node. formals_of node.kind)) (may_same old new is formals_of formals_blind refl)
       (λ number constant next. refl)
 
-  exits_after : (q : Proc) (n : SiteId) (e : Exits) → AreExitsOf q old n e → AreExitsOf q new n e
-  exits_after q n e of = record {
-    site = of.site;
-    is_site = of.is_site;
-    normal = ap (λ f. with_some e.normal f) taken_same ∙ of.normal;
-    returns = of.returns;
-    unwinds = of.unwinds;
-    cuts = of.cuts;
-  }
-
-  site_in_new : (q : Proc) (kind : NodeKind) → HasSite q old kind → HasSite q new kind
-  site_in_new q (Call site callee arguments exits) has = exits_after q site exits has
-  site_in_new q (Yield site values exits) has = exits_after q site exits has
-  site_in_new q kind has = tt
-
   site_after : (q : Proc) (a b : NodeKind) → KindStandsFor old.temporaries is.kept a b → HasSite q old a → HasSite q new b
   site_after q _ _ (Assigns to a b next stands) has = tt
   site_after q _ _ (Stores width aligned a b c d next one two) has = tt
   site_after q _ _ (Branches a b then_ otherwise stands) has = tt
-  site_after q _ _ (SameKind kind) has = site_in_new q kind has
+  site_after q _ _ (SameKind kind) has = site_of_same old new taken_same q kind has
 
   pub sites_after : (q : Proc) → All (λ node. HasSite q old node.kind) old.nodes → All (λ node. HasSite q new node.kind) new.nodes
   sites_after q =

@@ -5,6 +5,7 @@ pub mod Nodes
 pub mod Waits
 pub mod Counts
 pub mod Ranges
+pub mod Operands
 pub mod Graphs
 pub mod Flows
 pub mod Within

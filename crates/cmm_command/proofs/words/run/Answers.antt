@@ -2,7 +2,6 @@ use Rattle.std.proofs.Common.{subst, map, string_bytes}
 use Rattle.clap.specs.Words.{App, found_of, rows_of}
 use Rattle.clap.specs.declared.parser.matches.ArgMatches.{ArgMatches}
 use Rattle.cmm_command.specs.Meaning.{run_of, meaning_by, plain}
-use Rattle.cmm_command.specs.Options.{run_app}
 use Rattle.cmm_command.specs.Reading.{◌>>=◌, Gives, sorted}
 use Rattle.cmm_command.proofs.Giving.{goes}
 use Rattle.cmm_command.proofs.Simple.{run_simple}
