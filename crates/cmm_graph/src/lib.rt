@@ -14,7 +14,6 @@
 //! - `graph`: a graph.
 //! - `paths`: where the nodes of a graph lead, and which locals they read and write.
 //! - `validity`: the test of ranges.
-//! - `text`: a graph as text.
 //! - `laws`: what the layers above use of the paths of a graph, as contracts.
 #![tactic(auto)]
 
@@ -24,7 +23,6 @@ mod node;
 mod number;
 mod operand;
 mod paths;
-mod text;
 mod validity;
 
 pub use graph::Graph;

@@ -1,5 +1,6 @@
 //! The graphs of a program, and what is live in them.
 
+use crate::graph_text::Text;
 use cmm_flow::flows;
 use cmm_graph::Graph;
 use cmm_live::{LiveSets, liveness};
@@ -20,7 +21,7 @@ pub(crate) fn print_graphs(rt: &(impl AllocGlobal + Print), program: &Program) -
 
 /// Prints a graph, and in a line below it the locals that are live in front of each node, at each site, and on the cut exits of each site.
 fn print_graph(rt: &(impl AllocGlobal + Print), graph: &Graph) -> io::Result<()> {
-    print!(rt; "{graph}")?;
+    print!(rt; "{}", Text(graph))?;
     // No procedure of a case has as many.
     if graph.variables < 1000 && graph.temporaries < 1000 {
         print_sets(rt, liveness(rt.alloc(), graph))

@@ -12,13 +12,14 @@
 //! - none of these: the fault that docs/LANGUAGE.md names of the units, worked out by hand: the number of the unit, from 0, line, column, and the rule. Of units that break none,
 //!   how many tokens they have, and then of each procedure how many its statements have of its own, as `tools/token_counts.py` counts them in the texts.
 //!
-//! - `reading`: trees and names. `units`: the units of a line. `checking`: faults and counts. `graphs`: graphs and live sets.
+//! - `reading`: trees and names. `units`: the units of a line. `checking`: faults and counts. `graphs`: graphs and live sets. `graph_text`: a graph as text.
 #![tactic(auto)]
 
 ghost use Rattle.cmm_typing.specs.Fitting.{AreWords};
 ghost use Rattle.cmm_typing.specs.Meanings.{senses_of};
 
 mod checking;
+mod graph_text;
 mod graphs;
 mod reading;
 mod units;
