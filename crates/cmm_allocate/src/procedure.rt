@@ -16,7 +16,6 @@ use cmm_program::Proc;
 use std::alloc::{AllocError, Global};
 
 /// How a procedure keeps its locals. A local is named by its number: the variables come first, the temporaries after them.
-#[derive(Drop)]
 pub struct ProcedurePlaces {
     /// The place of each local.
     pub locals: Items<Location>,
@@ -25,6 +24,18 @@ pub struct ProcedurePlaces {
     pub live: LiveSets,
     /// The locals that are made 0 when the procedure is entered, in ascending order: those that may be read before they are written.
     pub zeroed: Items<u32>,
+}
+
+/// In one place, so that whoever lets one go has one call to prove.
+impl Drop for ProcedurePlaces {
+    fn drop(self) {
+        let Self {
+            locals: _,
+            frame: _,
+            live: _,
+            zeroed: _,
+        } = self;
+    }
 }
 
 /// The members of a set, in ascending order.

@@ -6,10 +6,17 @@ use crate::token::{Ident, Int, Text};
 use cmm_items::Items;
 
 /// A declaration.
-#[derive(Debug, Drop)]
+#[derive(Debug)]
 pub struct Decl {
     pub token: u32,
     pub form: DeclForm,
+}
+
+/// In one place, so that whoever lets one go has one call to prove.
+impl Drop for Decl {
+    fn drop(self) {
+        let Self { token: _, form: _ } = self;
+    }
 }
 
 /// What a declaration is.
@@ -48,19 +55,33 @@ pub enum DeclForm {
 }
 
 /// What an import gives a name to.
-#[derive(Debug, Drop)]
+#[derive(Debug)]
 pub struct Import {
     /// The name under which another unit exports it, where that differs.
     pub link: Option<Text>,
     pub name: Ident,
 }
 
+/// In one place, so that whoever lets one go has one call to prove.
+impl Drop for Import {
+    fn drop(self) {
+        let Self { link: _, name: _ } = self;
+    }
+}
+
 /// What an export publishes.
-#[derive(Debug, Drop)]
+#[derive(Debug)]
 pub struct Export {
     pub name: Ident,
     /// The name under which it is published, where that differs.
     pub link: Option<Text>,
+}
+
+/// In one place, so that whoever lets one go has one call to prove.
+impl Drop for Export {
+    fn drop(self) {
+        let Self { name: _, link: _ } = self;
+    }
 }
 
 /// A property of the target machine.

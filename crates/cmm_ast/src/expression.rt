@@ -6,10 +6,17 @@ use cmm_items::{Boxed, Items};
 use cmm_words::{Name, Width};
 
 /// A type.
-#[derive(Debug, Drop)]
+#[derive(Debug)]
 pub struct TypeName {
     pub token: u32,
     pub form: TypeForm,
+}
+
+/// In one place, so that whoever lets one go has one call to prove.
+impl Drop for TypeName {
+    fn drop(self) {
+        let Self { token: _, form: _ } = self;
+    }
 }
 
 /// What a type is.
@@ -90,10 +97,17 @@ pub enum ExprForm {
 }
 
 /// A primary expression.
-#[derive(Debug, Drop)]
+#[derive(Debug)]
 pub struct Primary {
     pub token: u32,
     pub form: PrimForm,
+}
+
+/// In one place, so that whoever lets one go has one call to prove.
+impl Drop for Primary {
+    fn drop(self) {
+        let Self { token: _, form: _ } = self;
+    }
 }
 
 /// What a primary expression is.

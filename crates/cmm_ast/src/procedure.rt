@@ -7,7 +7,7 @@ use crate::token::{Ident, Int, Text};
 use cmm_items::Items;
 
 /// A procedure.
-#[derive(Debug, Drop)]
+#[derive(Debug)]
 pub struct Proc {
     pub name: Ident,
     pub formals: Items<Formal>,
@@ -16,12 +16,35 @@ pub struct Proc {
     pub past: u32,
 }
 
+/// In one place, so that whoever lets one go has one call to prove.
+impl Drop for Proc {
+    fn drop(self) {
+        let Self {
+            name: _,
+            formals: _,
+            body: _,
+            past: _,
+        } = self;
+    }
+}
+
 /// A formal parameter.
-#[derive(Debug, Drop)]
+#[derive(Debug)]
 pub struct Formal {
     pub modifiers: Modifiers,
     pub width: TypeName,
     pub name: Ident,
+}
+
+/// In one place, so that whoever lets one go has one call to prove.
+impl Drop for Formal {
+    fn drop(self) {
+        let Self {
+            modifiers: _,
+            width: _,
+            name: _,
+        } = self;
+    }
 }
 
 /// What stands before the type of a variable.
@@ -39,13 +62,24 @@ pub enum Modifiers {
 }
 
 /// A declaration in a body.
-#[derive(Debug, Drop)]
+#[derive(Debug)]
 pub struct Local {
     /// The number of its first token.
     pub token: u32,
     /// The number of the token after its last.
     pub past: u32,
     pub form: LocalForm,
+}
+
+/// In one place, so that whoever lets one go has one call to prove.
+impl Drop for Local {
+    fn drop(self) {
+        let Self {
+            token: _,
+            past: _,
+            form: _,
+        } = self;
+    }
 }
 
 /// What is declared.
@@ -60,10 +94,17 @@ pub enum LocalForm {
 }
 
 /// A piece of stackdata.
-#[derive(Debug, Drop)]
+#[derive(Debug)]
 pub struct Room {
     pub token: u32,
     pub form: RoomForm,
+}
+
+/// In one place, so that whoever lets one go has one call to prove.
+impl Drop for Room {
+    fn drop(self) {
+        let Self { token: _, form: _ } = self;
+    }
 }
 
 /// What a piece of stackdata is.

@@ -125,17 +125,31 @@ pub enum Case {
 }
 
 /// A value, or those from one to another, both included.
-#[derive(Debug, Drop)]
+#[derive(Debug)]
 pub struct Range {
     pub from: Expr,
     pub to: Option<Expr>,
 }
 
+/// In one place, so that whoever lets one go has one call to prove.
+impl Drop for Range {
+    fn drop(self) {
+        let Self { from: _, to: _ } = self;
+    }
+}
+
 /// The values that a switch is over, both included.
-#[derive(Debug, Drop)]
+#[derive(Debug)]
 pub struct Span {
     pub from: Expr,
     pub to: Expr,
+}
+
+/// In one place, so that whoever lets one go has one call to prove.
+impl Drop for Span {
+    fn drop(self) {
+        let Self { from: _, to: _ } = self;
+    }
 }
 
 /// What is assigned to.
@@ -146,24 +160,45 @@ pub enum Lvalue {
 }
 
 /// A name after a kind, which has no effect.
-#[derive(Debug, Drop)]
+#[derive(Debug)]
 pub struct Kinded {
     pub kind: Option<Text>,
     pub name: Ident,
 }
 
+/// In one place, so that whoever lets one go has one call to prove.
+impl Drop for Kinded {
+    fn drop(self) {
+        let Self { kind: _, name: _ } = self;
+    }
+}
+
 /// A value that is passed, after a kind, which has no effect.
-#[derive(Debug, Drop)]
+#[derive(Debug)]
 pub struct Actual {
     pub kind: Option<Text>,
     pub value: Expr,
 }
 
+/// In one place, so that whoever lets one go has one call to prove.
+impl Drop for Actual {
+    fn drop(self) {
+        let Self { kind: _, value: _ } = self;
+    }
+}
+
 /// What is called, jumped to or cut to.
-#[derive(Debug, Drop)]
+#[derive(Debug)]
 pub struct Callee {
     pub token: u32,
     pub form: CalleeForm,
+}
+
+/// In one place, so that whoever lets one go has one call to prove.
+impl Drop for Callee {
+    fn drop(self) {
+        let Self { token: _, form: _ } = self;
+    }
 }
 
 /// What a callee is.
@@ -176,7 +211,7 @@ pub enum CalleeForm {
 }
 
 /// The exit of a return, by its number and that of the alternate exits.
-#[derive(Debug, Drop)]
+#[derive(Debug)]
 pub struct Exit {
     /// The number of the token `<`.
     pub token: u32,
@@ -184,11 +219,29 @@ pub struct Exit {
     pub count: Primary,
 }
 
+/// In one place, so that whoever lets one go has one call to prove.
+impl Drop for Exit {
+    fn drop(self) {
+        let Self {
+            token: _,
+            index: _,
+            count: _,
+        } = self;
+    }
+}
+
 /// An annotation of a call site or of a cut.
-#[derive(Debug, Drop)]
+#[derive(Debug)]
 pub struct Flow {
     pub token: u32,
     pub form: FlowForm,
+}
+
+/// In one place, so that whoever lets one go has one call to prove.
+impl Drop for Flow {
+    fn drop(self) {
+        let Self { token: _, form: _ } = self;
+    }
 }
 
 /// What an annotation says.

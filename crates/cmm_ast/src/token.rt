@@ -13,12 +13,18 @@ pub struct Ident {
 }
 
 /// A text where it stands.
-#[derive(Drop)]
 pub struct Text {
     /// The bytes after its escapes.
     pub bytes: Items<u8>,
     /// The number of its token in the unit, from 0.
     pub token: u32,
+}
+
+/// In one place, so that whoever lets one go has one call to prove.
+impl Drop for Text {
+    fn drop(self) {
+        let Self { bytes: _, token: _ } = self;
+    }
 }
 
 /// The bytes print as a text literal.

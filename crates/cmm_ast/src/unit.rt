@@ -8,11 +8,20 @@ use crate::token::{Ident, Int, Text};
 use cmm_items::Items;
 
 /// A unit.
-#[derive(Drop)]
 pub struct Unit {
     pub parts: Items<TopLevel>,
     /// Where each of its tokens stands, and the end of the unit after them.
     pub places: Items<Place>,
+}
+
+/// In one place, so that whoever lets one go has one call to prove.
+impl Drop for Unit {
+    fn drop(self) {
+        let Self {
+            parts: _,
+            places: _,
+        } = self;
+    }
 }
 
 /// Where a token stands.
@@ -33,11 +42,22 @@ pub enum TopLevel {
 }
 
 /// A section.
-#[derive(Debug, Drop)]
+#[derive(Debug)]
 pub struct Section {
     pub token: u32,
     pub name: Text,
     pub items: Items<Item>,
+}
+
+/// In one place, so that whoever lets one go has one call to prove.
+impl Drop for Section {
+    fn drop(self) {
+        let Self {
+            token: _,
+            name: _,
+            items: _,
+        } = self;
+    }
 }
 
 /// A part of a section.
@@ -56,10 +76,17 @@ pub enum Item {
 }
 
 /// A piece of data.
-#[derive(Debug, Drop)]
+#[derive(Debug)]
 pub struct Datum {
     pub token: u32,
     pub form: DatumForm,
+}
+
+/// In one place, so that whoever lets one go has one call to prove.
+impl Drop for Datum {
+    fn drop(self) {
+        let Self { token: _, form: _ } = self;
+    }
 }
 
 /// What a piece of data is.

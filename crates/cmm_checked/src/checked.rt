@@ -16,11 +16,21 @@ use cmm_words::Width;
 use std::marker::Model;
 
 /// The units of a program, which break no rule, and what is known of them. Contracts see their trees.
-#[derive(Drop)]
 pub struct Checked<'a> {
     units: Items<CheckedUnit<'a>>,
     linkage: Linkage<'a>,
     widths: Index<'a, Option<Width>>,
+}
+
+/// In one place, so that whoever lets one go has one call to prove.
+impl Drop for Checked<'_> {
+    fn drop(self) {
+        let Self {
+            units: _,
+            linkage: _,
+            widths: _,
+        } = self;
+    }
 }
 
 impl<'a> Model for Checked<'a> {

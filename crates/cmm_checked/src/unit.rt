@@ -12,7 +12,6 @@ use cmm_symbols::{Entry, Table};
 use cmm_unit_scope::UnitSenses;
 
 /// A unit that breaks no rule, and what is known of it.
-#[derive(Drop)]
 pub struct CheckedUnit<'a> {
     /// What stands in it, with the names of its procedures.
     pub flat: FlatUnit<'a>,
@@ -22,6 +21,18 @@ pub struct CheckedUnit<'a> {
     pub table: Table<'a, Entry<'a>>,
     /// What each of its declarations means, by its number.
     pub senses: Items<Sense>,
+}
+
+/// In one place, so that whoever lets one go has one call to prove.
+impl Drop for CheckedUnit<'_> {
+    fn drop(self) {
+        let Self {
+            flat: _,
+            exports: _,
+            table: _,
+            senses: _,
+        } = self;
+    }
 }
 
 impl<'a> CheckedUnit<'a> {

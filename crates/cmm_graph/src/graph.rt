@@ -5,7 +5,6 @@ use crate::number::NodeId;
 use cmm_items::Items;
 
 /// The graph of a procedure.
-#[derive(Drop)]
 pub struct Graph {
     /// How many variables the procedure has.
     pub variables: u32,
@@ -16,4 +15,17 @@ pub struct Graph {
     pub first: NodeId,
     /// The CopyIn of each continuation of the procedure, which serves all exits that lead to it.
     pub continuations: Items<NodeId>,
+}
+
+/// In one place, so that whoever lets one go has one call to prove.
+impl Drop for Graph {
+    fn drop(self) {
+        let Self {
+            variables: _,
+            temporaries: _,
+            nodes: _,
+            first: _,
+            continuations: _,
+        } = self;
+    }
 }

@@ -7,7 +7,6 @@ use cmm_program::{Range, Target};
 use cmm_words::Width;
 
 /// Where control may go on behind a call site. What an exit brings is taken by the CopyIn to which it leads.
-#[derive(Drop)]
 pub struct Exits {
     /// The CopyIn of the normal exit; none at a site that never returns.
     pub normal: Option<NodeId>,
@@ -19,11 +18,29 @@ pub struct Exits {
     pub cuts: Items<ContinuationId>,
 }
 
+/// In one place, so that whoever lets one go has one call to prove.
+impl Drop for Exits {
+    fn drop(self) {
+        let Self {
+            normal: _,
+            returns: _,
+            unwinds: _,
+            cuts: _,
+        } = self;
+    }
+}
+
 /// An arm of a switch: the node for the values in some ranges.
-#[derive(Drop)]
 pub struct Arm {
     pub ranges: Items<Range>,
     pub to: NodeId,
+}
+
+/// In one place, so that whoever lets one go has one call to prove.
+impl Drop for Arm {
+    fn drop(self) {
+        let Self { ranges: _, to: _ } = self;
+    }
 }
 
 /// A foreign call.
@@ -36,11 +53,17 @@ pub enum HostCall {
 }
 
 /// A node.
-#[derive(Drop)]
 pub struct Node {
     /// The count of its tokens, of which each node has one at least. It bounds the instructions of its code.
     pub tokens: u32,
     pub kind: NodeKind,
+}
+
+/// In one place, so that whoever lets one go has one call to prove.
+impl Drop for Node {
+    fn drop(self) {
+        let Self { tokens: _, kind: _ } = self;
+    }
 }
 
 /// What a node is. A step goes to `next`, where a kind has it.

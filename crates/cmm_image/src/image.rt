@@ -11,9 +11,15 @@ use std::marker::Model;
 
 /// What the compiler makes of a program, and what runs. Its parts keep every rule of the format, so that they have bytes, and nothing more
 /// is required of an image anywhere. Contracts see it as its parts.
-#[derive(Drop)]
 pub struct Image {
     parts: ImageParts,
+}
+
+/// In one place, so that whoever lets one go has one call to prove.
+impl Drop for Image {
+    fn drop(self) {
+        let Self { parts: _ } = self;
+    }
 }
 
 impl Model for Image {

@@ -32,7 +32,6 @@ pub struct StackLabelRow {
 }
 
 /// A variable of a procedure.
-#[derive(Drop)]
 pub struct VariableRow {
     pub width: Width,
     /// Whether it is declared `invariant`.
@@ -40,8 +39,18 @@ pub struct VariableRow {
     pub kind: Name,
 }
 
+/// In one place, so that whoever lets one go has one call to prove.
+impl Drop for VariableRow {
+    fn drop(self) {
+        let Self {
+            width: _,
+            invariant: _,
+            kind: _,
+        } = self;
+    }
+}
+
 /// A continuation of a procedure.
-#[derive(Drop)]
 pub struct ContinuationRow {
     /// How far into the frame its pair of code address and frame address lies: a multiple of 8.
     pub pair: u32,
@@ -51,8 +60,18 @@ pub struct ContinuationRow {
     pub parameters: Items<VariableNumber>,
 }
 
+/// In one place, so that whoever lets one go has one call to prove.
+impl Drop for ContinuationRow {
+    fn drop(self) {
+        let Self {
+            pair: _,
+            code: _,
+            parameters: _,
+        } = self;
+    }
+}
+
 /// A procedure.
-#[derive(Drop)]
 pub struct ProcRow {
     /// The address of its code.
     pub code: u64,
@@ -68,6 +87,22 @@ pub struct ProcRow {
     /// Its stackdata labels.
     pub stack_labels: Items<StackLabelRow>,
     pub continuations: Items<ContinuationRow>,
+}
+
+/// In one place, so that whoever lets one go has one call to prove.
+impl Drop for ProcRow {
+    fn drop(self) {
+        let Self {
+            code: _,
+            name: _,
+            frame: _,
+            return_at: _,
+            saved: _,
+            variables: _,
+            stack_labels: _,
+            continuations: _,
+        } = self;
+    }
 }
 
 /// An unwind exit of a site.
@@ -116,7 +151,6 @@ pub struct SpanRow {
 }
 
 /// A call site.
-#[derive(Drop)]
 pub struct SiteRow {
     /// The address behind its call, at which the first of its alternate exits stands.
     pub return_address: u64,
@@ -143,17 +177,52 @@ pub struct SiteRow {
     pub spans: Items<SpanRow>,
 }
 
+/// In one place, so that whoever lets one go has one call to prove.
+impl Drop for SiteRow {
+    fn drop(self) {
+        let Self {
+            return_address: _,
+            procedure: _,
+            number: _,
+            never_returns: _,
+            aborts: _,
+            yield_values: _,
+            results: _,
+            returns: _,
+            unwinds: _,
+            cuts: _,
+            variables: _,
+            spans: _,
+        } = self;
+    }
+}
+
 /// An exported data label.
-#[derive(Drop)]
 pub struct LabelRow {
     /// Its link name.
     pub name: Name,
     pub address: u64,
 }
 
+/// In one place, so that whoever lets one go has one call to prove.
+impl Drop for LabelRow {
+    fn drop(self) {
+        let Self {
+            name: _,
+            address: _,
+        } = self;
+    }
+}
+
 /// A global register.
-#[derive(Drop)]
 pub struct GlobalRow {
     pub width: Width,
     pub name: Name,
+}
+
+/// In one place, so that whoever lets one go has one call to prove.
+impl Drop for GlobalRow {
+    fn drop(self) {
+        let Self { width: _, name: _ } = self;
+    }
 }

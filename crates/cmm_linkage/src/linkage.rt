@@ -53,12 +53,22 @@ impl<'a> Model for Gathered<'a> {
 }
 
 /// What units know of each other: what they export, and the names of their registers.
-#[derive(Drop)]
 pub struct Linkage<'a> {
     exports: Items<Exported<'a>>,
     links: Index<'a, Option<Entry<'a>>>,
     /// The names of registers, by their numbers.
     registers: IndexSet<&'a [u8]>,
+}
+
+/// In one place, so that whoever lets one go has one call to prove.
+impl Drop for Linkage<'_> {
+    fn drop(self) {
+        let Self {
+            exports: _,
+            links: _,
+            registers: _,
+        } = self;
+    }
 }
 
 impl<'a> Model for Linkage<'a> {

@@ -13,7 +13,6 @@ use cmm_items::Items;
 use std::alloc::{AllocError, Global};
 
 /// Which locals of a graph are live where. A set has the numbers that `number_of` gives to locals.
-#[derive(Drop)]
 pub struct LiveSets {
     /// Before each node.
     pub before: Items<BitSet>,
@@ -22,6 +21,17 @@ pub struct LiveSets {
     pub sites: Items<BitSet>,
     /// On the cut exits of each call site, the parameters of their continuations taken away.
     pub cuts: Items<BitSet>,
+}
+
+/// In one place, so that whoever lets one go has one call to prove.
+impl Drop for LiveSets {
+    fn drop(self) {
+        let Self {
+            before: _,
+            sites: _,
+            cuts: _,
+        } = self;
+    }
 }
 
 /// The live locals before each node, at each call site and on its cut exits: just those that `IsLiveBefore`, `IsLiveAt` and `IsLiveOnCut` say.

@@ -13,11 +13,21 @@ use std::alloc::{AllocError, Global};
 use std::marker::Model;
 
 /// A unit with what stands in it, and with the names of each of its procedures. Contracts see its tree.
-#[derive(Drop)]
 pub struct FlatUnit<'a> {
     tree: &'a Unit,
     things: Items<Thing<'a>>,
     procs: Items<ProcNames<'a>>,
+}
+
+/// In one place, so that whoever lets one go has one call to prove.
+impl Drop for FlatUnit<'_> {
+    fn drop(self) {
+        let Self {
+            tree: _,
+            things: _,
+            procs: _,
+        } = self;
+    }
 }
 
 impl<'a> Model for FlatUnit<'a> {

@@ -27,7 +27,6 @@ use std::alloc::{AllocError, Global};
 use std::marker::Model;
 
 /// A procedure with the pieces of its body, the names that it declares, its variables and its stackdata. Contracts see its tree.
-#[derive(Drop)]
 pub struct ProcNames<'a> {
     proc: &'a Proc,
     pieces: Items<Piece<'a>>,
@@ -36,6 +35,20 @@ pub struct ProcNames<'a> {
     repeated: Option<Spot>,
     variables: Items<&'a Ident>,
     rooms: Items<&'a Room>,
+}
+
+/// In one place, so that whoever lets one go has one call to prove.
+impl Drop for ProcNames<'_> {
+    fn drop(self) {
+        let Self {
+            proc: _,
+            pieces: _,
+            own: _,
+            repeated: _,
+            variables: _,
+            rooms: _,
+        } = self;
+    }
 }
 
 impl<'a> Model for ProcNames<'a> {

@@ -12,13 +12,23 @@ pub enum Target {
 }
 
 /// A variable of a procedure.
-#[derive(Drop)]
 pub struct VarInfo {
     pub width: Width,
     /// The text of its declaration, which a walk shows.
     pub kind: Name,
     /// Whether the client may not change it.
     pub invariant: bool,
+}
+
+/// In one place, so that whoever lets one go has one call to prove.
+impl Drop for VarInfo {
+    fn drop(self) {
+        let Self {
+            width: _,
+            kind: _,
+            invariant: _,
+        } = self;
+    }
 }
 
 /// An item of stackdata. An item of length 0 with `label` set is a stackdata label; one of length 0 without is an
@@ -40,7 +50,6 @@ pub struct Cont {
 }
 
 /// A call site: a call, a yield or a checked operator.
-#[derive(Drop)]
 pub struct Site {
     /// What takes the values of its normal exit.
     pub results: Items<Target>,
@@ -61,8 +70,23 @@ pub struct Site {
     pub spans: Items<(u64, Constant)>,
 }
 
+/// In one place, so that whoever lets one go has one call to prove.
+impl Drop for Site {
+    fn drop(self) {
+        let Self {
+            results: _,
+            returns: _,
+            unwinds: _,
+            cuts: _,
+            aborts: _,
+            never: _,
+            yield_values: _,
+            spans: _,
+        } = self;
+    }
+}
+
 /// A procedure.
-#[derive(Drop)]
 pub struct Proc {
     pub name: Name,
     /// The number of its unit.
@@ -76,4 +100,21 @@ pub struct Proc {
     pub conts: Items<Cont>,
     pub sites: Items<Site>,
     pub body: Items<Statement>,
+}
+
+/// In one place, so that whoever lets one go has one call to prove.
+impl Drop for Proc {
+    fn drop(self) {
+        let Self {
+            name: _,
+            unit: _,
+            tokens: _,
+            formals: _,
+            vars: _,
+            stack: _,
+            conts: _,
+            sites: _,
+            body: _,
+        } = self;
+    }
 }

@@ -5,7 +5,6 @@ use cmm_items::Items;
 use cmm_words::{Constant, Name, Width};
 
 /// A piece of initialised data, or an alignment.
-#[derive(Drop)]
 pub struct Datum {
     /// In bytes.
     pub align: u32,
@@ -17,8 +16,19 @@ pub struct Datum {
     pub values: Items<Constant>,
 }
 
+/// In one place, so that whoever lets one go has one call to prove.
+impl Drop for Datum {
+    fn drop(self) {
+        let Self {
+            align: _,
+            length: _,
+            width: _,
+            values: _,
+        } = self;
+    }
+}
+
 /// A data label.
-#[derive(Drop)]
 pub struct Label {
     pub name: Name,
     /// The names under which it is exported.
@@ -29,15 +39,32 @@ pub struct Label {
     pub at_end: bool,
 }
 
+/// In one place, so that whoever lets one go has one call to prove.
+impl Drop for Label {
+    fn drop(self) {
+        let Self {
+            name: _,
+            links: _,
+            datum: _,
+            at_end: _,
+        } = self;
+    }
+}
+
 /// A global register.
-#[derive(Drop)]
 pub struct Global {
     pub name: Name,
     pub width: Width,
 }
 
+/// In one place, so that whoever lets one go has one call to prove.
+impl Drop for Global {
+    fn drop(self) {
+        let Self { name: _, width: _ } = self;
+    }
+}
+
 /// A program.
-#[derive(Drop)]
 pub struct Program {
     pub procs: Items<Proc>,
     /// The data of all units, in their order in memory.
@@ -46,4 +73,17 @@ pub struct Program {
     pub labels: Items<Label>,
     /// The number of the procedure that is run first.
     pub main: u32,
+}
+
+/// In one place, so that whoever lets one go has one call to prove.
+impl Drop for Program {
+    fn drop(self) {
+        let Self {
+            procs: _,
+            datums: _,
+            globals: _,
+            labels: _,
+            main: _,
+        } = self;
+    }
 }

@@ -34,12 +34,23 @@ pub struct Limits {
 }
 
 /// An image, its script and its limits, ready to run once.
-#[derive(Drop)]
 pub struct Session {
     loaded: Loaded,
     machine: Machine,
     steps: u64,
     answer: Option<Outcome>,
+}
+
+/// In one place, so that whoever lets one go has one call to prove.
+impl Drop for Session {
+    fn drop(self) {
+        let Self {
+            loaded: _,
+            machine: _,
+            steps: _,
+            answer: _,
+        } = self;
+    }
 }
 
 impl Model for Session {
@@ -123,7 +134,12 @@ impl Session {
     pub fn into_image(self) -> Image
         ensures { result ≡ self.launch.image }
     {
-        let Session { loaded, .. } = self;
+        let Session {
+            loaded,
+            machine: _,
+            steps: _,
+            answer: _,
+        } = self;
         loaded.into_image()
     }
 }

@@ -53,9 +53,15 @@ pub struct Block {
 }
 
 /// A client script. No two of its blocks have the same code.
-#[derive(Drop)]
 pub struct Script {
     pub blocks: Items<Block>,
+}
+
+/// In one place, so that whoever lets one go has one call to prove.
+impl Drop for Script {
+    fn drop(self) {
+        let Self { blocks: _ } = self;
+    }
 }
 
 impl Script {

@@ -18,7 +18,7 @@ use std::marker::Model;
 pub type NoMemory = AllocError;
 
 /// The memory of a run, by regions.
-#[derive(Debug, Drop)]
+#[derive(Debug)]
 pub struct Memory {
     code: Vec<u8>,
     data: Vec<u8>,
@@ -26,6 +26,18 @@ pub struct Memory {
     region: Vec<u8>,
     /// The bytes of the stack.
     stack: u64,
+}
+
+/// In one place, so that whoever lets one go has one call to prove.
+impl Drop for Memory {
+    fn drop(self) {
+        let Self {
+            code: _,
+            data: _,
+            region: _,
+            stack: _,
+        } = self;
+    }
 }
 
 impl Model for Memory {
