@@ -25,7 +25,7 @@ use Rattle.cmm_static_semantics.specs.Declarations.{NamedUnit}
 use Rattle.cmm_static_semantics.specs.Linking.{Program}
 use Rattle.cmm_static_semantics.specs.Scopes.{unit_senses}
 use Rattle.cmm_symbols.specs.Shown.{whats}
-use Rattle.cmm_symbols.proofs.Shared.{flat_next}
+use Rattle.cmm_static_semantics.proofs.Shared.{flat_next}
 use Rattle.cmm_check_declarations.specs.DataEnds.{data_of}
 
 -- ---- sizes and alignments

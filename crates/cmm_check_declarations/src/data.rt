@@ -1,5 +1,5 @@
 //! Data: their types, how many values they have, and what they begin as.
-#![tactic(auto, using(cmm_symbols::proofs::Shared::first_of_append))]
+#![tactic(auto, using(cmm_static_semantics::proofs::Shared::first_of_append))]
 
 ghost use Rattle.std.specs.Prelude.{◌≡◌, flat_map};
 ghost use Rattle.cmm_static_semantics.specs.Expressions.{constant_alone_spots};
@@ -11,8 +11,7 @@ ghost use Rattle.cmm_typing.specs.Fitting.{AreWords};
 
 use cmm_ast::{Count, Datum, DatumForm, Expr, Initial, TypeName};
 use cmm_rules::Rule;
-use cmm_static_semantics::Spot;
-use cmm_symbols::unless;
+use cmm_static_semantics::{Spot, unless};
 use cmm_typing::{
     Names, note_alignment, note_constant_alone, note_number, note_type, note_width, number_of,
     width_of,

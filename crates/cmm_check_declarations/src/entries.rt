@@ -1,5 +1,5 @@
 //! Typedefs, constants and registers.
-#![tactic(auto, using(cmm_symbols::proofs::Shared::first_of_append))]
+#![tactic(auto, using(cmm_static_semantics::proofs::Shared::first_of_append))]
 
 ghost use Rattle.std.specs.Prelude.{◌≡◌, map, flat_map};
 ghost use Rattle.cmm_static_semantics.specs.Spots.{first_of};

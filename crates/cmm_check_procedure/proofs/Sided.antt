@@ -7,7 +7,7 @@ use Rattle.cmm_static_semantics.specs.declared.spot.Spot.{Spot}
 use Rattle.cmm_static_semantics.specs.Scopes.{Scope}
 use Rattle.cmm_static_semantics.specs.Spots.{first_of}
 use Rattle.cmm_static_semantics.specs.Statements.{sides}
-use Rattle.cmm_symbols.proofs.Shared.{first_of_append}
+use Rattle.cmm_static_semantics.proofs.Shared.{first_of_append}
 use Rattle.cmm_check_procedure.specs.inside.Sides.{past_first, side_spots}
 
 sides_law : (s : Scope) (places : List Lvalue) (e : Expr) (es : List Expr) → sides s places (e ∷ es) ≡ side_spots s places e ++ sides s (past_first places) es

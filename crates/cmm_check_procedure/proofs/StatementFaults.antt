@@ -12,7 +12,7 @@ use Rattle.cmm_static_semantics.specs.Scopes.{Scope, senses}
 use Rattle.cmm_static_semantics.specs.Spots.{first_of}
 use Rattle.cmm_static_semantics.specs.Statements.{stmt_spots}
 use Rattle.cmm_static_semantics.specs.Switches.{switch_spots}
-use Rattle.cmm_symbols.proofs.Shared.{first_of_append}
+use Rattle.cmm_static_semantics.proofs.Shared.{first_of_append}
 use Rattle.cmm_check_procedure.specs.Heads.{arm_head}
 use Rattle.cmm_check_procedure.proofs.Heads.{heads_are}
 use Rattle.cmm_check_procedure.specs.inside.Parted.{value_width, form_spots, arms_spots}

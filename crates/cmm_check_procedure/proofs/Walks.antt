@@ -1,6 +1,6 @@
 -- Lists of which each item is judged by what was before it: one more item.
 use Rattle.std.proofs.Common.{◌≡◌, ap, sym, ◌∙◌, List, [], ◌∷◌, ◌++◌, append_assoc, append-nil, Option}
-use Rattle.cmm_symbols.proofs.Shared.{first_of_append}
+use Rattle.cmm_static_semantics.proofs.Shared.{first_of_append}
 use Rattle.cmm_static_semantics.specs.declared.spot.Spot.{Spot}
 use Rattle.cmm_static_semantics.specs.Spots.{first_of}
 

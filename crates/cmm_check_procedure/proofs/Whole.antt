@@ -13,7 +13,7 @@ use Rattle.cmm_static_semantics.specs.Scopes.{Scope}
 use Rattle.cmm_static_semantics.specs.Senses.{Senses}
 use Rattle.cmm_static_semantics.specs.Spots.{first_of}
 use Rattle.cmm_static_semantics.specs.Statements.{scope_of, proc_spots, part_spots, formal_token}
-use Rattle.cmm_symbols.proofs.Shared.{first_of_append}
+use Rattle.cmm_static_semantics.proofs.Shared.{first_of_append}
 use Rattle.cmm_check_procedure.specs.inside.Formals.{formal_spots, formals_spots}
 
 by_parts : (best : Option Spot) (a b c d : List Spot) → first_of (first_of (first_of best a) (b ++ c)) d ≡ first_of best (a ++ b ++ c ++ d)

@@ -1,5 +1,5 @@
 //! Assignments.
-#![tactic(auto, using(cmm_symbols::proofs::Shared::first_of_append))]
+#![tactic(auto, using(cmm_static_semantics::proofs::Shared::first_of_append))]
 
 ghost use Rattle.std.specs.Prelude.{◌≡◌, flat_map};
 ghost use Rattle.cmm_static_semantics.specs.Scopes.{senses};
@@ -14,8 +14,7 @@ use cmm_ast::{Expr, Lvalue};
 use cmm_items::Items;
 use cmm_proc_scope::BodyNames;
 use cmm_rules::Rule;
-use cmm_static_semantics::{Sense, Spot};
-use cmm_symbols::unless;
+use cmm_static_semantics::{Sense, Spot, unless};
 use cmm_typing::{Names, note_bits, note_bits_of_memory, width_of};
 use cmm_words::Width;
 

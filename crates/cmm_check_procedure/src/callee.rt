@@ -1,5 +1,5 @@
 //! Callees.
-#![tactic(auto, using(cmm_symbols::proofs::Shared::first_of_append))]
+#![tactic(auto, using(cmm_static_semantics::proofs::Shared::first_of_append))]
 
 ghost use Rattle.std.specs.Prelude.{◌≡◌, Option, Some, false};
 ghost use Rattle.cmm_words.specs.declared.width.Width.TheVariants.{W64};
@@ -16,8 +16,7 @@ ghost use Rattle.cmm_typing.specs.Fitting.{AreWords, FitsSense};
 use cmm_ast::{Callee, CalleeForm};
 use cmm_proc_scope::BodyNames;
 use cmm_rules::Rule;
-use cmm_static_semantics::{Bits, Host, Known, Sense, Spot};
-use cmm_symbols::unless;
+use cmm_static_semantics::{Bits, Host, Known, Sense, Spot, unless};
 use cmm_typing::{
     Judged, Names, as_wanted, name_type, note_bits, note_bits_of_memory, note_judged,
 };

@@ -1,5 +1,5 @@
 //! Checked operators.
-#![tactic(auto, using(cmm_symbols::proofs::Shared::first_of_append))]
+#![tactic(auto, using(cmm_static_semantics::proofs::Shared::first_of_append))]
 
 ghost use Rattle.std.specs.Prelude.{◌≡◌};
 ghost use Rattle.cmm_static_semantics.specs.Algebras.{knowns};
@@ -18,8 +18,7 @@ use cmm_ast::{Expr, Ident};
 use cmm_operators::faulty;
 use cmm_proc_scope::BodyNames;
 use cmm_rules::Rule;
-use cmm_static_semantics::{Known, Operand, Operands, Operator, Sense, Spot, Typed};
-use cmm_symbols::unless;
+use cmm_static_semantics::{Known, Operand, Operands, Operator, Sense, Spot, Typed, unless};
 use cmm_typing::{Judged, Names, applied_to_two, checked_named, judge, note_inner, note_judged};
 use cmm_words::Width;
 

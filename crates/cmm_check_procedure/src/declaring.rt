@@ -1,5 +1,5 @@
 //! What a procedure declares.
-#![tactic(auto, using(cmm_symbols::proofs::Shared::first_of_append))]
+#![tactic(auto, using(cmm_static_semantics::proofs::Shared::first_of_append))]
 
 ghost use Rattle.std.specs.Prelude.{◌≡◌, flat_map};
 ghost use Rattle.cmm_static_semantics.specs.Scopes.{senses};
@@ -12,8 +12,7 @@ ghost use Rattle.cmm_typing.specs.Fitting.{AreWords};
 use cmm_ast::{Expr, Formal, LocalForm, Modifiers, Room, RoomForm};
 use cmm_proc_scope::BodyNames;
 use cmm_rules::Rule;
-use cmm_static_semantics::Spot;
-use cmm_symbols::unless;
+use cmm_static_semantics::{Spot, unless};
 use cmm_typing::{Names, note_alignment, note_number, note_type};
 
 /// The most formals of a procedure.

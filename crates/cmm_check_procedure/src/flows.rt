@@ -1,5 +1,5 @@
 //! Annotations of call sites and cuts.
-#![tactic(auto, using(cmm_symbols::proofs::Shared::first_of_append))]
+#![tactic(auto, using(cmm_static_semantics::proofs::Shared::first_of_append))]
 
 ghost use Rattle.std.specs.Prelude.{◌≡◌, flat_map, slice_get, option_copied};
 ghost use Rattle.cmm_static_semantics.specs.Calls as calls;
@@ -12,8 +12,7 @@ use crate::naming::note_exit;
 use cmm_ast::{Flow, FlowForm, Ident};
 use cmm_proc_scope::BodyNames;
 use cmm_rules::Rule;
-use cmm_static_semantics::Spot;
-use cmm_symbols::unless;
+use cmm_static_semantics::{Spot, unless};
 use cmm_typing::Names;
 
 /// How many alternate exits a call site may have.

@@ -8,8 +8,7 @@ ghost use Rattle.cmm_proc_scope.specs.Bodies.{scope_of_body};
 use cmm_ast::{Ident, Kinded};
 use cmm_proc_scope::BodyNames;
 use cmm_rules::Rule;
-use cmm_static_semantics::{Sense, Spot};
-use cmm_symbols::unless;
+use cmm_static_semantics::{Sense, Spot, unless};
 use cmm_typing::Names;
 
 /// Notes that what a name means cannot be assigned to: rules 21 and 22.

@@ -1,5 +1,5 @@
 //! What is passed, and what takes it.
-#![tactic(auto, using(cmm_symbols::proofs::Shared::first_of_append))]
+#![tactic(auto, using(cmm_static_semantics::proofs::Shared::first_of_append))]
 
 ghost use Rattle.std.specs.Prelude.{◌≡◌, flat_map};
 ghost use Rattle.cmm_static_semantics.specs.Calls as calls;

@@ -7,8 +7,7 @@ ghost use Rattle.cmm_static_semantics.specs.Spots.{first_of};
 
 use cmm_ast::{Actual, Ident, Kinded, Text};
 use cmm_rules::Rule;
-use cmm_static_semantics::Spot;
-use cmm_symbols::unless;
+use cmm_static_semantics::{Spot, unless};
 
 /// What has a first token.
 pub trait Starts {

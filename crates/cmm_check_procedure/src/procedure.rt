@@ -1,5 +1,5 @@
 //! A whole procedure: its names, its formals and the parts of its body.
-#![tactic(auto, using(cmm_symbols::proofs::Shared::first_of_append))]
+#![tactic(auto, using(cmm_static_semantics::proofs::Shared::first_of_append))]
 
 ghost use Rattle.std.specs.Prelude.{◌≡◌, OnOk, flat_map, map};
 ghost use Rattle.cmm_static_semantics.specs.Scopes.{senses};

@@ -1,5 +1,5 @@
 //! Faults of the ranges and arms of a switch.
-#![tactic(auto, using(cmm_symbols::proofs::Shared::first_of_append))]
+#![tactic(auto, using(cmm_static_semantics::proofs::Shared::first_of_append))]
 
 ghost use Rattle.std.specs.Prelude.{◌≡◌, ◌&&◌, ◌∷◌, List, map, nat_le, false, Option, option_map, IfOk, OnOk};
 ghost use Rattle.cmm_static_semantics.specs.Expressions.{number_alone_spots};
@@ -17,8 +17,7 @@ use crate::extents::Extents;
 use crate::number::{extent_of, number_at};
 use cmm_ast::{Arm, Case, Expr, Range};
 use cmm_rules::Rule;
-use cmm_static_semantics::Spot;
-use cmm_symbols::unless;
+use cmm_static_semantics::{Spot, unless};
 use cmm_typing::{Names, note_number_alone};
 use cmm_words::Width;
 use std::alloc::AllocError;

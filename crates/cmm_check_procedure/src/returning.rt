@@ -1,5 +1,5 @@
 //! Returns.
-#![tactic(auto, using(cmm_symbols::proofs::Shared::first_of_append))]
+#![tactic(auto, using(cmm_static_semantics::proofs::Shared::first_of_append))]
 
 ghost use Rattle.std.specs.Prelude.{◌≡◌};
 ghost use Rattle.cmm_static_semantics.specs.Scopes.{senses};
@@ -11,8 +11,7 @@ ghost use Rattle.cmm_typing.specs.Fitting.{AreWords};
 use cmm_ast::Exit;
 use cmm_proc_scope::BodyNames;
 use cmm_rules::Rule;
-use cmm_static_semantics::Spot;
-use cmm_symbols::unless;
+use cmm_static_semantics::{Spot, unless};
 use cmm_typing::{Names, note_number_of_primary, number_of_primary};
 
 /// The most alternate exits of a call site.

@@ -1,5 +1,5 @@
 //! The forms of statements.
-#![tactic(auto, using(cmm_symbols::proofs::Shared::first_of_append))]
+#![tactic(auto, using(cmm_static_semantics::proofs::Shared::first_of_append))]
 
 ghost use Rattle.std.specs.Prelude.{◌≡◌, OnOk};
 ghost use Rattle.cmm_static_semantics.specs.Scopes.{senses};
@@ -23,8 +23,7 @@ use cmm_ast::{Actual, Callee, Exit, Expr, Flow, Ident, Kinded, Primary, Stmt, St
 use cmm_items::Items;
 use cmm_proc_scope::BodyNames;
 use cmm_rules::Rule;
-use cmm_static_semantics::Spot;
-use cmm_symbols::unless;
+use cmm_static_semantics::{Spot, unless};
 use cmm_typing::{Names, note_bits, note_constant, note_number_of_primary, note_test, wanted};
 use cmm_words::Width;
 use std::alloc::{AllocError, Global};

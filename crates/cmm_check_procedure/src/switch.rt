@@ -1,5 +1,5 @@
 //! Faults of a switch.
-#![tactic(auto, using(cmm_symbols::proofs::Shared::first_of_append))]
+#![tactic(auto, using(cmm_static_semantics::proofs::Shared::first_of_append))]
 
 ghost use Rattle.std.specs.Prelude.{◌≡◌, map, option_map, OnOk};
 ghost use Rattle.cmm_static_semantics.specs.Spots.{first_of};
@@ -15,8 +15,7 @@ use crate::number::{extent_of, number_at};
 use crate::ranges::Switch;
 use cmm_ast::{Arm, Span};
 use cmm_rules::Rule;
-use cmm_static_semantics::Spot;
-use cmm_symbols::unless;
+use cmm_static_semantics::{Spot, unless};
 use cmm_typing::{Names, note_number_alone};
 use cmm_words::Width;
 use std::alloc::{AllocError, Global};

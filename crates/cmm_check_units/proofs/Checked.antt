@@ -19,7 +19,8 @@ use Rattle.cmm_check_units.specs.inside.Flat.{Flat, flat_unit, links_before, wid
 use Rattle.cmm_linkage.specs.Exports.{exported_links}
 use Rattle.cmm_linkage.specs.Registers.{registers_in}
 use Rattle.cmm_symbols.specs.Noted.{long_of}
-use Rattle.cmm_symbols.proofs.Shared.{first_of_append, long_is}
+use Rattle.cmm_static_semantics.proofs.Shared.{first_of_append}
+use Rattle.cmm_symbols.proofs.Shared.{long_is}
 use Rattle.cmm_check_units.specs.inside.Cyclic.{AreNoted}
 use Rattle.cmm_check_units.proofs.Cyclic.{are_noted}
 use Rattle.cmm_check_units.proofs.FlatUnits.{broken_flat}

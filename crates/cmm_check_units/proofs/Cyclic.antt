@@ -16,7 +16,8 @@ use Rattle.cmm_ast.specs.declared.token.Ident.{Ident}
 use Rattle.cmm_symbols.specs.Shown.{shown, entry_shown, with_what}
 use Rattle.cmm_symbols.specs.declared.table.Named.{Named}
 use Rattle.cmm_symbols.specs.declared.entry.Entry.{Entry as EntryTree}
-use Rattle.cmm_symbols.proofs.Shared.{first_of_append, found_with, again_append, rest_next, spot_order}
+use Rattle.cmm_static_semantics.proofs.Shared.{first_of_append, rest_next}
+use Rattle.cmm_symbols.proofs.Shared.{found_with, again_append, spot_order}
 use Rattle.cmm_symbols.specs.Numbering.{numbering, number_in}
 use Rattle.cmm_unit_scope.specs.Numbers.{entry_at}
 use Rattle.cmm_check_units.specs.inside.Cyclic.{is_dependent, IsNoted, CountsOrIsNoted, AreNoted}

@@ -7,7 +7,7 @@ use Rattle.cmm_static_semantics.specs.Spots.{first_by, sooner_by, comes_before, 
 use Rattle.cmm_static_semantics.specs.Linking.{Program}
 use Rattle.cmm_static_semantics.specs.Faults.{stands_before}
 use Rattle.cmm_check_units.specs.inside.Flat.{Flat, flat_spots, placed, flats_broken}
-use Rattle.cmm_symbols.proofs.Shared.{first_by_append, rest_next, mapped_next}
+use Rattle.cmm_static_semantics.proofs.Shared.{first_by_append, rest_next, mapped_next}
 
 not_less : (n : ℕ) → nat_lt n n ≡ false
 not_less n = grind (arith, nat_tests)

@@ -16,7 +16,8 @@ use Rattle.cmm_check_declarations.specs.EntryFaults.{entry_value_spots}
 use Rattle.cmm_check_declarations.proofs.Shared.{value_or_cycle}
 use Rattle.cmm_linkage.specs.Exports.{exported_links}
 use Rattle.cmm_linkage.proofs.Shared.{links_of_all}
-use Rattle.cmm_symbols.proofs.Shared.{first_of_append, first_apart, first_joined, first_swapped, first_of_each, spot_order}
+use Rattle.cmm_static_semantics.proofs.Shared.{first_of_append}
+use Rattle.cmm_symbols.proofs.Shared.{first_apart, first_joined, first_swapped, first_of_each, spot_order}
 use Rattle.cmm_check_units.specs.inside.Cyclic.{entry_cycle_spots}
 use Rattle.cmm_check_units.specs.inside.Flat.{flat_unit, flat_links, links_before, widths_before, flat_widths, flat_name_spots, flat_value_spots, flat_register_spots, flat_cycle_spots, spots_by, flat_spots, placed, flats_broken, flat_starts, some_starts}
 use Rattle.cmm_check_units.proofs.FirstUnit.{first_placed}

@@ -14,7 +14,8 @@ use Rattle.cmm_symbols.specs.Indexed.{indexed, or_else}
 use Rattle.cmm_linkage.proofs.Shared.{listed_next}
 use Rattle.cmm_check_units.specs.inside.Linked.{AreLinks, AreFound}
 use Rattle.cmm_symbols.specs.declared.index.Index.{Index}
-use Rattle.cmm_symbols.proofs.Shared.{first_of_append, found_push, mapped_next}
+use Rattle.cmm_static_semantics.proofs.Shared.{first_of_append, mapped_next}
+use Rattle.cmm_symbols.proofs.Shared.{found_push}
 
 among_push : (x : List ℕ) (ns : List (List ℕ)) (n : List ℕ) → is_among x (ns ++ n ∷ []) ≡ (is_among x ns || bytes_eq x n)
 among_push x [] n = or-false (bytes_eq x n)

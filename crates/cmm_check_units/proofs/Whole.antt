@@ -10,7 +10,7 @@ use Rattle.cmm_static_semantics.specs.Limits.{proc_limits}
 use Rattle.cmm_static_semantics.specs.Senses.{Senses}
 use Rattle.cmm_static_semantics.specs.Spots.{first_of}
 use Rattle.cmm_static_semantics.specs.Statements.{proc_spots}
-use Rattle.cmm_symbols.proofs.Shared.{first_of_append}
+use Rattle.cmm_static_semantics.proofs.Shared.{first_of_append}
 use Rattle.cmm_proc_scope.specs.Procs.{item_procs}
 
 joined : (b0 b1 b2 : Option Spot) (xs ys : List Spot) → b1 ≡ first_of b0 xs → b2 ≡ first_of b1 ys → b2 ≡ first_of b0 (xs ++ ys)

@@ -10,8 +10,8 @@ ghost use Rattle.cmm_check_units.specs.inside.Cyclic.{entry_cycle_spots, is_depe
 ghost use Rattle.cmm_unit_scope.specs.Numbers.{entry_at};
 
 use cmm_rules::Rule;
-use cmm_static_semantics::Spot;
-use cmm_symbols::{Entry, Named, unless};
+use cmm_static_semantics::{Spot, unless};
+use cmm_symbols::{Entry, Named};
 use cmm_unit_scope::Dependencies;
 use std::alloc::{AllocError, Global};
 

@@ -8,8 +8,8 @@ ghost use Rattle.cmm_symbols.specs.Shown.{shown};
 
 use cmm_linkage::import_link;
 use cmm_rules::Rule;
-use cmm_static_semantics::Spot;
-use cmm_symbols::{Entry, Named, is_host, unless};
+use cmm_static_semantics::{Spot, unless};
+use cmm_symbols::{Entry, Named, is_host};
 
 /// Whether a name is an import of itself.
 fn is_own_import<'a>(named: &Named<'a, Entry<'a>>) -> bool

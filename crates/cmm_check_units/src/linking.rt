@@ -12,8 +12,8 @@ ghost use Rattle.cmm_symbols.specs.Shown.{shown, entry_shown};
 use cmm_ast::Export;
 use cmm_linkage::{Linkage, entry_of, export_link, import_link};
 use cmm_rules::Rule;
-use cmm_static_semantics::Spot;
-use cmm_symbols::{Entry, Index, Named, Table, is_host, unless};
+use cmm_static_semantics::{Spot, unless};
+use cmm_symbols::{Entry, Index, Named, Table, is_host};
 use std::alloc::AllocError;
 
 /// Whether it can be exported.

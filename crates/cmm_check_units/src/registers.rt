@@ -1,5 +1,5 @@
 //! Global registers: those of one name are one register, of one width in all units.
-#![tactic(auto, using(cmm_symbols::proofs::Shared::first_of_append))]
+#![tactic(auto, using(cmm_static_semantics::proofs::Shared::first_of_append))]
 
 ghost use Rattle.std.specs.Prelude.{◌≡◌, ◌++◌, List, map, flat_map, Option, OnOk};
 ghost use Rattle.cmm_words.specs.declared.width.Width.{Width};

@@ -7,8 +7,8 @@ ghost use Rattle.cmm_symbols.specs.Shown.{thing_item};
 
 use cmm_ast::{ByteOrder, Decl, DeclForm, Item, Property, PropertyForm};
 use cmm_rules::Rule;
-use cmm_static_semantics::Spot;
-use cmm_symbols::{Thing, unless};
+use cmm_static_semantics::{Spot, unless};
+use cmm_symbols::Thing;
 
 /// Whether it is a property of the machine for which code is made.
 fn is_of_target(property: PropertyForm) -> bool

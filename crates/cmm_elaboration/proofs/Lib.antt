@@ -1,3 +1,8 @@
+mod RuleTexts
+mod NameRuleRows
+mod ExpressionRuleRows
+mod StatementRuleRows
+mod LimitRuleRows
 mod Texts
 mod StatementRows
 mod UnitRows

@@ -14,7 +14,7 @@ use Rattle.cmm_program.specs.declared.statement.Lvalue.TheVariants as lvalue
 use Rattle.cmm_program.specs.declared.statement.Case.TheVariants.{In, Default}
 use Rattle.cmm_program.specs.declared.procedure.Target.TheVariants.{Variable, Register}
 use Rattle.cmm_program.proofs.Shared.{num, local, code, op, test, is, assign, from_to, arm, variable, plain, stack_label, stack_bytes, continuation, call_site, yield_site, procedure, global, program}
-use Rattle.cmm_static_semantics.proofs.Shared.{unit_of}
+use Rattle.cmm_elaboration.proofs.RuleTexts.{unit_of}
 use Rattle.cmm_elaboration.specs.Meaning.{meaning_of}
 use Rattle.cmm_elaboration.proofs.Texts.{opened}
 

@@ -11,7 +11,7 @@ use Rattle.cmm_program.specs.declared.statement.Form.TheVariants as f
 use Rattle.cmm_program.specs.declared.statement.Lvalue.TheVariants as lvalue
 use Rattle.cmm_program.specs.declared.procedure.Target.TheVariants.{Variable, Register}
 use Rattle.cmm_program.proofs.Shared.{num, local, code, address, op, test, is, assign_all, variable, plain, continuation, call_site, yield_site, procedure, datum, data_label, global, program}
-use Rattle.cmm_static_semantics.proofs.Shared.{unit_of}
+use Rattle.cmm_elaboration.proofs.RuleTexts.{unit_of}
 use Rattle.cmm_elaboration.specs.Meaning.{meaning_of}
 use Rattle.cmm_elaboration.proofs.Texts.{opened}
 

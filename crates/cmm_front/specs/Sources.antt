@@ -3,7 +3,7 @@ use Rattle.std.specs.Prelude.{◌≡◌, ℕ, List, [], ◌∷◌, ◌++◌, len
 use Rattle.cmm_static_semantics.specs.declared.fault.Fault.{Fault}
 use Rattle.cmm_ast.specs.declared.unit.Place.{Place}
 use Rattle.cmm_ast.specs.declared.unit.Unit.{Unit as UnitTree}
-use Rattle.cmm_ast.specs.Derivation.{DerivesWithin}
+use Rattle.cmm_grammar_laws.specs.Derivation.{DerivesWithin}
 use Rattle.cmm_lexer.specs.declared.piece.Lexeme.{Lexeme}
 use Rattle.cmm_lexer.specs.declared.tokens.LexFault.TheVariants.{At}
 use Rattle.cmm_lexer.specs.Lexing.{first_fault, tokens_of, IsFirstFault}

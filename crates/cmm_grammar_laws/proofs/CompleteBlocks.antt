@@ -21,9 +21,9 @@ use Rattle.cmm_ast.specs.declared.statement.StmtForm.{StmtForm, Row_of-Arm, end_
 use Rattle.cmm_ast.specs.declared.statement.StmtForm.TheVariants as stmts
 use Rattle.cmm_ast.specs.declared.statement.StmtForm.TheVariants.{If', Switch', Span'}
 use Rattle.cmm_lexer.specs.Spellings.{keyword_number, symbol_number}
-use Rattle.cmm_ast.specs.Taking.{Reading, Takes, ◌⨾◌, is_word, is_sign, keyword as keyword_is, here as here_is, opening as opening_is, enclosed as enclosed_is, braces as braces_is, optional as optional_is, many as many_is}
-use Rattle.cmm_ast.specs.ExpressionGrammar as grammar
-use Rattle.cmm_ast.specs.StatementGrammar as bodies
+use Rattle.cmm_grammar_laws.specs.Taking.{Reading, Takes, ◌⨾◌, is_word, is_sign, keyword as keyword_is, here as here_is, opening as opening_is, enclosed as enclosed_is, braces as braces_is, optional as optional_is, many as many_is}
+use Rattle.cmm_grammar_laws.specs.ExpressionGrammar as grammar
+use Rattle.cmm_grammar_laws.specs.StatementGrammar as bodies
 use Rattle.cmm_grammar_laws.specs.Reading.{Reads, ◌>>=◌, give, stop, if_next, here, skip, skip_opening}
 use Rattle.cmm_grammar_laws.specs.inside.Duties.{Complete}
 use Rattle.cmm_grammar_laws.specs.StatementReading.{PartForm, OfLocal, OfStmt, flat_part, if_form, chained, otherwise, is_within, arm, switch_form, span_form, part_of, part_form, part, block}

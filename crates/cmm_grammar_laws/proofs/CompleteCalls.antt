@@ -13,9 +13,9 @@ use Rattle.cmm_ast.specs.declared.statement.Kinded.{Kinded}
 use Rattle.cmm_ast.specs.declared.statement.Span.{Span as SwitchSpan}
 use Rattle.cmm_ast.specs.declared.statement.StmtForm.TheVariants as stmts
 use Rattle.cmm_lexer.specs.Spellings.{keyword_number, symbol_number}
-use Rattle.cmm_ast.specs.Taking.{◌⨾◌, is_word, keyword as keyword_is, symbol as symbol_is, optional as optional_is}
-use Rattle.cmm_ast.specs.ExpressionGrammar as grammar
-use Rattle.cmm_ast.specs.StatementGrammar as bodies
+use Rattle.cmm_grammar_laws.specs.Taking.{◌⨾◌, is_word, keyword as keyword_is, symbol as symbol_is, optional as optional_is}
+use Rattle.cmm_grammar_laws.specs.ExpressionGrammar as grammar
+use Rattle.cmm_grammar_laws.specs.StatementGrammar as bodies
 use Rattle.cmm_grammar_laws.specs.Reading.{give}
 use Rattle.cmm_grammar_laws.specs.inside.Duties.{Complete}
 use Rattle.cmm_grammar_laws.specs.CallReading.{call, convention, call_after}

@@ -11,8 +11,8 @@ use Rattle.cmm_ast.specs.declared.statement.Case.{Case}
 use Rattle.cmm_ast.specs.declared.statement.Case.TheVariants as cases
 use Rattle.cmm_ast.specs.declared.statement.Range.{Range}
 use Rattle.cmm_lexer.specs.Spellings.{symbol_number}
-use Rattle.cmm_ast.specs.Taking.{Takes, ◌⨾◌, nothing, is_sign, symbol as symbol_is, commas as commas_is}
-use Rattle.cmm_ast.specs.StatementGrammar as bodies
+use Rattle.cmm_grammar_laws.specs.Taking.{Takes, ◌⨾◌, nothing, is_sign, symbol as symbol_is, commas as commas_is}
+use Rattle.cmm_grammar_laws.specs.StatementGrammar as bodies
 use Rattle.cmm_grammar_laws.specs.Reading.{Reads, ◌>>=◌, give, skip, is_comma, more_commas, commas}
 use Rattle.cmm_grammar_laws.specs.inside.Duties.{Complete}
 use Rattle.cmm_grammar_laws.specs.PartReading.{range}

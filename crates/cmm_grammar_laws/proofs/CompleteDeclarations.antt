@@ -24,10 +24,10 @@ use Rattle.cmm_ast.specs.declared.declaration.PropertyForm.TheVariants as proper
 use Rattle.cmm_ast.specs.declared.declaration.ByteOrder.{ByteOrder}
 use Rattle.cmm_ast.specs.declared.declaration.ByteOrder.TheVariants as orders
 use Rattle.cmm_lexer.specs.Spellings.{keyword_number, symbol_number}
-use Rattle.cmm_ast.specs.Taking.{◌⨾◌, nothing, is_word, keyword as keyword_is, symbol as symbol_is, optional as optional_is, listed as listed_is, many as many_is, may_comma}
-use Rattle.cmm_ast.specs.ExpressionGrammar as grammar
-use Rattle.cmm_ast.specs.ExpressionGrammar.{width_word}
-use Rattle.cmm_ast.specs.UnitGrammar as units
+use Rattle.cmm_grammar_laws.specs.Taking.{◌⨾◌, nothing, is_word, keyword as keyword_is, symbol as symbol_is, optional as optional_is, listed as listed_is, many as many_is, may_comma}
+use Rattle.cmm_grammar_laws.specs.ExpressionGrammar as grammar
+use Rattle.cmm_grammar_laws.specs.ExpressionGrammar.{width_word}
+use Rattle.cmm_grammar_laws.specs.UnitGrammar as units
 use Rattle.cmm_grammar_laws.specs.Reading.{◌>>=◌, give, symbol, keyword, optional, ident}
 use Rattle.cmm_grammar_laws.specs.inside.Duties.{Complete}
 use Rattle.cmm_grammar_laws.specs.ExpressionReading.{type_name}

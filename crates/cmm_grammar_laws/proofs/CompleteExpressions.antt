@@ -26,9 +26,9 @@ use Rattle.cmm_ast.specs.declared.expression.ExprForm.TheVariants.{Infix, Prefix
 use Rattle.cmm_ast.specs.declared.expression.PrimForm.TheVariants.{Literal, Name as NameOf, Bracketed, Bracketed'}
 use Rattle.cmm_ast.specs.declared.expression.Memory.{Memory', roll-Memory}
 use Rattle.cmm_lexer.specs.Spellings.{keyword_number, symbol_number}
-use Rattle.cmm_ast.specs.Taking.{Reading, Takes, ◌⨾◌, token, nothing, is_word, is_sign, is_name, is_operator, is_int, is_char, keyword as keyword_is, symbol as symbol_is, here as here_is, operator as operator_is, optional as optional_is, square as square_is, in_brackets as in_brackets_is, may_comma}
-use Rattle.cmm_ast.specs.ExpressionGrammar as grammar
-use Rattle.cmm_ast.specs.ExpressionGrammar.{width_word, prefix_symbol, infix_symbol, infix_level, left_level, right_level, unary_level, level_of, expr_form, prim_form, aligned_by, number_of}
+use Rattle.cmm_grammar_laws.specs.Taking.{Reading, Takes, ◌⨾◌, token, nothing, is_word, is_sign, is_name, is_operator, is_int, is_char, keyword as keyword_is, symbol as symbol_is, here as here_is, operator as operator_is, optional as optional_is, square as square_is, in_brackets as in_brackets_is, may_comma}
+use Rattle.cmm_grammar_laws.specs.ExpressionGrammar as grammar
+use Rattle.cmm_grammar_laws.specs.ExpressionGrammar.{width_word, prefix_symbol, infix_symbol, infix_level, left_level, right_level, unary_level, level_of, expr_form, prim_form, aligned_by, number_of}
 use Rattle.cmm_grammar_laws.specs.Reading.{Point, TooDeep, Answer, Read, Stopped, Reads, and_then, ◌>>=◌, give, next, look, passes, skip_operator, stop, in_brackets, pick, listed}
 use Rattle.cmm_grammar_laws.specs.ReadingLaws.{point}
 use Rattle.cmm_grammar_laws.specs.inside.Duties.{passed, outcome, Moves, Complete}

@@ -31,10 +31,10 @@ use Rattle.cmm_ast.specs.declared.statement.Lvalue.{Lvalue}
 use Rattle.cmm_ast.specs.declared.statement.StmtForm.TheVariants as stmts
 use Rattle.cmm_ast.specs.declared.statement.StmtForm.{StmtForm}
 use Rattle.cmm_lexer.specs.Spellings.{keyword_number, symbol_number}
-use Rattle.cmm_ast.specs.Taking.{Reading, Takes, here as here_is, is_word, is_sign, keyword as keyword_is, listed as listed_is, nothing, symbol as symbol_is, token, ◌⨾◌, commas as commas_is, is_name, optional as optional_is, square as square_is}
-use Rattle.cmm_ast.specs.ExpressionGrammar as grammar
-use Rattle.cmm_ast.specs.ExpressionGrammar.{width_word, aligned_by}
-use Rattle.cmm_ast.specs.StatementGrammar as bodies
+use Rattle.cmm_grammar_laws.specs.Taking.{Reading, Takes, here as here_is, is_word, is_sign, keyword as keyword_is, listed as listed_is, nothing, symbol as symbol_is, token, ◌⨾◌, commas as commas_is, is_name, optional as optional_is, square as square_is}
+use Rattle.cmm_grammar_laws.specs.ExpressionGrammar as grammar
+use Rattle.cmm_grammar_laws.specs.ExpressionGrammar.{width_word, aligned_by}
+use Rattle.cmm_grammar_laws.specs.StatementGrammar as bodies
 use Rattle.cmm_grammar_laws.specs.Reading.{Reads, if_next, next, skip, ◌>>=◌}
 use Rattle.cmm_grammar_laws.specs.inside.Duties.{Complete}
 use Rattle.cmm_grammar_laws.specs.ExpressionReading.{named_type, type_name}

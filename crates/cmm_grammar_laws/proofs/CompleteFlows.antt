@@ -10,9 +10,9 @@ use Rattle.cmm_ast.specs.declared.statement.Flow.{Flow}
 use Rattle.cmm_ast.specs.declared.statement.FlowForm.{FlowForm}
 use Rattle.cmm_ast.specs.declared.statement.FlowForm.TheVariants as flows
 use Rattle.cmm_lexer.specs.Spellings.{keyword_number, symbol_number}
-use Rattle.cmm_ast.specs.Taking.{Reading, Takes, ◌⨾◌, is_word, here as here_is, keyword as keyword_is, listed as listed_is, may_comma as may_comma_is}
-use Rattle.cmm_ast.specs.ExpressionGrammar as grammar
-use Rattle.cmm_ast.specs.StatementGrammar as statements
+use Rattle.cmm_grammar_laws.specs.Taking.{Reading, Takes, ◌⨾◌, is_word, here as here_is, keyword as keyword_is, listed as listed_is, may_comma as may_comma_is}
+use Rattle.cmm_grammar_laws.specs.ExpressionGrammar as grammar
+use Rattle.cmm_grammar_laws.specs.StatementGrammar as statements
 use Rattle.cmm_grammar_laws.specs.Reading.{Reads, ◌>>=◌, give, next, past, choice, passes, skip, is_comma, keyword, ident}
 use Rattle.cmm_grammar_laws.specs.ReadingLaws.{point}
 use Rattle.cmm_grammar_laws.specs.inside.Duties.{passed, outcome, Moves, Complete}

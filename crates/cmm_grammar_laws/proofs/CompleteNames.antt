@@ -19,8 +19,8 @@ use Rattle.cmm_ast.specs.declared.statement.Lvalue.{Lvalue}
 use Rattle.cmm_ast.specs.declared.statement.StmtForm.TheVariants as stmts
 use Rattle.cmm_ast.specs.declared.statement.StmtForm.{StmtForm}
 use Rattle.cmm_lexer.specs.Spellings.{symbol_number}
-use Rattle.cmm_ast.specs.Taking.{Takes, is_sign, optional as optional_is, outermost as outermost_is, square as square_is, symbol as symbol_is, ◌⨾◌}
-use Rattle.cmm_ast.specs.ExpressionGrammar.{aligned_by}
+use Rattle.cmm_grammar_laws.specs.Taking.{Takes, is_sign, optional as optional_is, outermost as outermost_is, square as square_is, symbol as symbol_is, ◌⨾◌}
+use Rattle.cmm_grammar_laws.specs.ExpressionGrammar.{aligned_by}
 use Rattle.cmm_grammar_laws.specs.Reading.{◌>>=◌}
 use Rattle.cmm_grammar_laws.specs.inside.Duties.{Complete}
 use Rattle.cmm_grammar_laws.specs.ExpressionReading.{named_type, whole_memory}

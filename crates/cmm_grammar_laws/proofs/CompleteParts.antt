@@ -23,10 +23,10 @@ use Rattle.cmm_ast.specs.declared.statement.Lvalue.{Lvalue}
 use Rattle.cmm_ast.specs.declared.statement.Lvalue.TheVariants as lvalues
 use Rattle.cmm_ast.specs.declared.statement.Range.{Range}
 use Rattle.cmm_lexer.specs.Spellings.{keyword_number, symbol_number}
-use Rattle.cmm_ast.specs.Taking.{◌⨾◌, is_name, is_sign, square as square_is, outermost as outermost_is, optional as optional_is, symbol as symbol_is}
-use Rattle.cmm_ast.specs.ExpressionGrammar as grammar
-use Rattle.cmm_ast.specs.ExpressionGrammar.{width_word, aligned_by}
-use Rattle.cmm_ast.specs.StatementGrammar as statements
+use Rattle.cmm_grammar_laws.specs.Taking.{◌⨾◌, is_name, is_sign, square as square_is, outermost as outermost_is, optional as optional_is, symbol as symbol_is}
+use Rattle.cmm_grammar_laws.specs.ExpressionGrammar as grammar
+use Rattle.cmm_grammar_laws.specs.ExpressionGrammar.{width_word, aligned_by}
+use Rattle.cmm_grammar_laws.specs.StatementGrammar as statements
 use Rattle.cmm_grammar_laws.specs.Reading.{◌>>=◌, give, look}
 use Rattle.cmm_grammar_laws.specs.inside.Duties.{Complete}
 use Rattle.cmm_grammar_laws.specs.ExpressionReading.{width_in, begins_expression, named_type, operand, whole_memory, prim_by, whole_prim}

@@ -20,10 +20,10 @@ use Rattle.cmm_ast.specs.declared.procedure.RoomForm.{RoomForm}
 use Rattle.cmm_ast.specs.declared.procedure.RoomForm.TheVariants as rooms
 use Rattle.cmm_ast.specs.declared.statement.Block.{Block}
 use Rattle.cmm_lexer.specs.Spellings.{symbol_number}
-use Rattle.cmm_ast.specs.Taking.{◌⨾◌, is_word, is_sign, here as here_is, symbol as symbol_is, optional as optional_is, listed as listed_is, many as many_is, may_list as may_list_is, round as round_is, square as square_is, braces as braces_is}
-use Rattle.cmm_ast.specs.ExpressionGrammar as grammar
-use Rattle.cmm_ast.specs.ExpressionGrammar.{width_word}
-use Rattle.cmm_ast.specs.StatementGrammar as bodies
+use Rattle.cmm_grammar_laws.specs.Taking.{◌⨾◌, is_word, is_sign, here as here_is, symbol as symbol_is, optional as optional_is, listed as listed_is, many as many_is, may_list as may_list_is, round as round_is, square as square_is, braces as braces_is}
+use Rattle.cmm_grammar_laws.specs.ExpressionGrammar as grammar
+use Rattle.cmm_grammar_laws.specs.ExpressionGrammar.{width_word}
+use Rattle.cmm_grammar_laws.specs.StatementGrammar as bodies
 use Rattle.cmm_grammar_laws.specs.Reading.{Reads, ◌>>=◌, give}
 use Rattle.cmm_grammar_laws.specs.inside.Duties.{Complete}
 use Rattle.cmm_grammar_laws.specs.ExpressionReading.{named_type}

@@ -6,7 +6,7 @@ use Rattle.cmm_lexer.specs.declared.piece.Lexeme.TheVariants as l
 use Rattle.cmm_lexer.specs.declared.keyword.Keyword.{Keyword}
 use Rattle.cmm_lexer.specs.declared.symbol.Symbol.{Symbol}
 use Rattle.cmm_lexer.specs.Spellings.{keyword_number, symbol_number}
-use Rattle.cmm_ast.specs.Taking.{Reading, Takes, ◌⨾◌, nothing, here as here_is, is_word, is_sign, keyword as keyword_is, symbol as symbol_is, many as many_is, optional as optional_is}
+use Rattle.cmm_grammar_laws.specs.Taking.{Reading, Takes, ◌⨾◌, nothing, here as here_is, is_word, is_sign, keyword as keyword_is, symbol as symbol_is, many as many_is, optional as optional_is}
 use Rattle.cmm_grammar_laws.specs.Reading.{Reads, ◌>>=◌, give, passes, if_next, here, skip, keyword, optional, many, is_comma}
 use Rattle.cmm_grammar_laws.specs.inside.Duties.{Moves, Complete}
 use Rattle.cmm_grammar_laws.specs.DeclarationReading.{if_word, if_symbol}

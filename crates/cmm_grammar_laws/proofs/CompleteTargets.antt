@@ -22,9 +22,9 @@ use Rattle.cmm_ast.specs.declared.statement.Lvalue.{Lvalue}
 use Rattle.cmm_ast.specs.declared.statement.StmtForm.TheVariants as stmts
 use Rattle.cmm_ast.specs.declared.statement.StmtForm.{StmtForm}
 use Rattle.cmm_lexer.specs.Spellings.{symbol_number, keyword_number}
-use Rattle.cmm_ast.specs.Taking.{Takes, ◌⨾◌, nothing, symbol as symbol_is, optional as optional_is, Reading, here as here_is, is_name, is_sign, listed as listed_is, may_comma as may_comma_is, may_list as may_list_is, outermost as outermost_is, round as round_is, token, is_checked, is_word, keyword as keyword_is}
-use Rattle.cmm_ast.specs.ExpressionGrammar as grammar
-use Rattle.cmm_ast.specs.StatementGrammar as bodies
+use Rattle.cmm_grammar_laws.specs.Taking.{Takes, ◌⨾◌, nothing, symbol as symbol_is, optional as optional_is, Reading, here as here_is, is_name, is_sign, listed as listed_is, may_comma as may_comma_is, may_list as may_list_is, outermost as outermost_is, round as round_is, token, is_checked, is_word, keyword as keyword_is}
+use Rattle.cmm_grammar_laws.specs.ExpressionGrammar as grammar
+use Rattle.cmm_grammar_laws.specs.StatementGrammar as bodies
 use Rattle.cmm_grammar_laws.specs.Reading.{is_comma, symbol, Reads, if_next, more_listed, next, checked_in, ◌>>=◌}
 use Rattle.cmm_grammar_laws.specs.inside.Duties.{Complete}
 use Rattle.cmm_grammar_laws.specs.ExpressionReading.{begins_expression, whole}

@@ -34,11 +34,11 @@ use Rattle.cmm_ast.specs.declared.unit.Count.TheVariants as counts
 use Rattle.cmm_ast.specs.declared.unit.Initial.{Initial}
 use Rattle.cmm_ast.specs.declared.unit.Initial.TheVariants as initials
 use Rattle.cmm_lexer.specs.Spellings.{keyword_number, symbol_number}
-use Rattle.cmm_ast.specs.Taking.{Reading, Takes, ◌⨾◌, token, is_name, is_word, is_sign, here as here_is, keyword as keyword_is, symbol as symbol_is, braces as braces_is, many as many_is, round as round_is, may_list as may_list_is, listed as listed_is}
-use Rattle.cmm_ast.specs.ExpressionGrammar as grammar
-use Rattle.cmm_ast.specs.ExpressionGrammar.{width_word}
-use Rattle.cmm_ast.specs.StatementGrammar as bodies
-use Rattle.cmm_ast.specs.UnitGrammar as units
+use Rattle.cmm_grammar_laws.specs.Taking.{Reading, Takes, ◌⨾◌, token, is_name, is_word, is_sign, here as here_is, keyword as keyword_is, symbol as symbol_is, braces as braces_is, many as many_is, round as round_is, may_list as may_list_is, listed as listed_is}
+use Rattle.cmm_grammar_laws.specs.ExpressionGrammar as grammar
+use Rattle.cmm_grammar_laws.specs.ExpressionGrammar.{width_word}
+use Rattle.cmm_grammar_laws.specs.StatementGrammar as bodies
+use Rattle.cmm_grammar_laws.specs.UnitGrammar as units
 use Rattle.cmm_grammar_laws.specs.Reading.{Reads, ◌>>=◌, give, keyword, symbol, int, text, listed}
 use Rattle.cmm_grammar_laws.specs.inside.Duties.{Complete}
 use Rattle.cmm_grammar_laws.specs.ExpressionReading.{named_type, begins_expression, whole, whole_prim}

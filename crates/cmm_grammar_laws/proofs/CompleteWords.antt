@@ -15,9 +15,9 @@ use Rattle.cmm_ast.specs.declared.statement.Flow.{Flow}
 use Rattle.cmm_ast.specs.declared.statement.Kinded.{Kinded}
 use Rattle.cmm_ast.specs.declared.statement.StmtForm.TheVariants as stmts
 use Rattle.cmm_lexer.specs.Spellings.{keyword_number, symbol_number}
-use Rattle.cmm_ast.specs.Taking.{◌⨾◌, is_word, is_sign, keyword as keyword_is, symbol as symbol_is, optional as optional_is, round as round_is, may_list as may_list_is}
-use Rattle.cmm_ast.specs.ExpressionGrammar as grammar
-use Rattle.cmm_ast.specs.StatementGrammar as bodies
+use Rattle.cmm_grammar_laws.specs.Taking.{◌⨾◌, is_word, is_sign, keyword as keyword_is, symbol as symbol_is, optional as optional_is, round as round_is, may_list as may_list_is}
+use Rattle.cmm_grammar_laws.specs.ExpressionGrammar as grammar
+use Rattle.cmm_grammar_laws.specs.StatementGrammar as bodies
 use Rattle.cmm_grammar_laws.specs.Reading.{◌>>=◌, give}
 use Rattle.cmm_grammar_laws.specs.inside.Duties.{Complete}
 use Rattle.cmm_grammar_laws.specs.PartReading.{begins_kinded, kinded, lvalue, called, callee}

@@ -2,7 +2,7 @@
 use Rattle.std.proofs.Common.{◌≡◌, ℕ, suc, ◌<◌, ◌≤◌, Bool, true, false, ◌&&◌, List, [], ◌∷◌, length, Option, Some, None, refl, sym, ap, ◌∙◌, arith, nat_lt, ◌==◌, le_trans}
 use Rattle.std.proofs.lemmas.Bool.{eqb-true}
 use Rattle.cmm_lexer.specs.declared.piece.Lexeme.{Lexeme}
-use Rattle.cmm_ast.specs.Taking.{Reading, Takes, ◌⨾◌, here as here_is, nothing, token, taken_if, first_over, operator as operator_is, opening as opening_is, enclosed as enclosed_is, outermost as outermost_is}
+use Rattle.cmm_grammar_laws.specs.Taking.{Reading, Takes, ◌⨾◌, here as here_is, nothing, token, taken_if, first_over, operator as operator_is, opening as opening_is, enclosed as enclosed_is, outermost as outermost_is}
 use Rattle.cmm_grammar_laws.specs.Reading.{Point, TooDeep, Answer, Read, Stopped, Reads, and_then, ◌>>=◌, give, next, past, look, choice, passes, if_next, here, skip, skip_opening, skip_operator, enclosed, outermost}
 use Rattle.cmm_grammar_laws.specs.ReadingLaws.{point}
 use Rattle.cmm_grammar_laws.specs.inside.Duties.{passed, outcome, Moves, Complete}

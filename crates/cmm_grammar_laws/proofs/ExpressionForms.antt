@@ -16,9 +16,9 @@ use Rattle.cmm_ast.specs.declared.expression.ExprForm.{ExprForm, Row_of-Expr, en
 use Rattle.cmm_ast.specs.declared.expression.ExprForm.TheBlock as ExprForms
 use Rattle.cmm_ast.specs.declared.expression.ExprForm.TheVariants.{Infix}
 use Rattle.cmm_ast.specs.declared.expression.Memory.{roll-Memory}
-use Rattle.cmm_ast.specs.Taking.{Reading, Takes, ◌⨾◌, token, is_sign, is_int, is_char, symbol as symbol_is, here as here_is, operator as operator_is, optional as optional_is, may_comma}
-use Rattle.cmm_ast.specs.ExpressionGrammar as grammar
-use Rattle.cmm_ast.specs.ExpressionGrammar.{infix_symbol, infix_level, left_level, right_level, unary_level, level_of, binds, expr_form, number_of}
+use Rattle.cmm_grammar_laws.specs.Taking.{Reading, Takes, ◌⨾◌, token, is_sign, is_int, is_char, symbol as symbol_is, here as here_is, operator as operator_is, optional as optional_is, may_comma}
+use Rattle.cmm_grammar_laws.specs.ExpressionGrammar as grammar
+use Rattle.cmm_grammar_laws.specs.ExpressionGrammar.{infix_symbol, infix_level, left_level, right_level, unary_level, level_of, binds, expr_form, number_of}
 use Rattle.cmm_grammar_laws.specs.ExpressionReading.{infix_in, number_in, tight, infix_next}
 use Rattle.cmm_grammar_laws.proofs.Takings.{same_number, takes_assoc, rest_to}
 use Rattle.cmm_grammar_laws.proofs.Tokens.{some_is}

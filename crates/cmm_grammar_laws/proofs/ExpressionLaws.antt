@@ -1,7 +1,7 @@
 -- What readers say of all of some tokens, used on expressions.
 use Rattle.std.proofs.Common.{ℕ, true, refl}
 use Rattle.cmm_ast.specs.declared.expression.Expr.{Expr}
-use Rattle.cmm_ast.specs.ExpressionGrammar as grammar
+use Rattle.cmm_grammar_laws.specs.ExpressionGrammar as grammar
 use Rattle.cmm_grammar_laws.specs.inside.Duties.{Complete, Local}
 use Rattle.cmm_grammar_laws.specs.ExpressionReading.{whole}
 use Rattle.cmm_grammar_laws.specs.ExpressionLaws.{OneExpression, NoneGoesOn, EachIsTooDeep, EachIsRead, WhatIsReadIsOne}

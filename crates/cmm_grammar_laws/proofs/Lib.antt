@@ -1,3 +1,4 @@
+mod GrammarRows
 pub mod Shared
 pub mod Takings
 pub mod ExpressionForms

@@ -4,7 +4,7 @@ use Rattle.cmm_lexer.specs.declared.piece.Lexeme.{Lexeme}
 use Rattle.cmm_lexer.specs.declared.piece.Lexeme.TheVariants as l
 use Rattle.cmm_lexer.specs.declared.symbol.Symbol.TheVariants.{Comma}
 use Rattle.cmm_lexer.specs.Spellings.{symbol_number}
-use Rattle.cmm_ast.specs.Taking.{Reading, Takes, ◌⨾◌, token, taken_if, symbol as symbol_is, may_comma, listed as listed_is, may_list as may_list_is}
+use Rattle.cmm_grammar_laws.specs.Taking.{Reading, Takes, ◌⨾◌, token, taken_if, symbol as symbol_is, may_comma, listed as listed_is, may_list as may_list_is}
 use Rattle.cmm_grammar_laws.specs.Reading.{Reads, ◌>>=◌, give, next, past, choice, passes, if_next, skip, is_comma, more_listed, listed, may_list}
 use Rattle.cmm_grammar_laws.specs.ReadingLaws.{point}
 use Rattle.cmm_grammar_laws.specs.inside.Duties.{passed, outcome, Moves, Complete}

@@ -2,7 +2,7 @@
 -- hangs on no token beyond the one that it looks at: for each way in which readers are put together.
 use Rattle.std.proofs.Common.{◌≡◌, ℕ, ◌+◌, ◌-◌, ◌⊎◌, inl, inr, Bool, true, false, List, [], ◌∷◌, ◌++◌, length, take, Option, Some, None, refl, sym, ap, ◌∙◌, arith, subst, append_assoc, append-nil, length-append}
 use Rattle.cmm_lexer.specs.declared.piece.Lexeme.{Lexeme}
-use Rattle.cmm_ast.specs.Taking.{Reading, Takes, ◌⨾◌, nothing, token}
+use Rattle.cmm_grammar_laws.specs.Taking.{Reading, Takes, ◌⨾◌, nothing, token}
 use Rattle.cmm_grammar_laws.specs.Reading.{Point, Fault, Unexpected, TooDeep, Answer, Read, Stopped, Reads, and_then, ◌>>=◌, give, stop, next, look, choice, passes, if_next, is_comma}
 use Rattle.cmm_grammar_laws.specs.ReadingLaws.{within}
 use Rattle.cmm_grammar_laws.specs.inside.Duties.{reach, Begun, Sound, Local, Viable}

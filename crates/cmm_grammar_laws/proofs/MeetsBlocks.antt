@@ -11,9 +11,9 @@ use Rattle.cmm_ast.specs.declared.statement.Part.{Part}
 use Rattle.cmm_ast.specs.declared.statement.StmtForm.{StmtForm}
 use Rattle.cmm_ast.specs.declared.statement.StmtForm.TheVariants as stmts
 use Rattle.cmm_lexer.specs.Spellings.{keyword_number}
-use Rattle.cmm_ast.specs.Taking.{Takes, ◌⨾◌, nothing, is_word, is_sign, keyword as keyword_is, here as here_is, enclosed as enclosed_is, opening as opening_is}
-use Rattle.cmm_ast.specs.ExpressionGrammar as grammar
-use Rattle.cmm_ast.specs.StatementGrammar as bodies
+use Rattle.cmm_grammar_laws.specs.Taking.{Takes, ◌⨾◌, nothing, is_word, is_sign, keyword as keyword_is, here as here_is, enclosed as enclosed_is, opening as opening_is}
+use Rattle.cmm_grammar_laws.specs.ExpressionGrammar as grammar
+use Rattle.cmm_grammar_laws.specs.StatementGrammar as bodies
 use Rattle.cmm_grammar_laws.specs.Reading.{Reads, give, if_next, skip_opening, stop}
 use Rattle.cmm_grammar_laws.specs.StatementReading.{if_form, chained, otherwise, is_within, arm, switch_form, span_form, part_of, part_form, part, block}
 use Rattle.cmm_grammar_laws.proofs.Takings.{same_number, takes_assoc, many_to}

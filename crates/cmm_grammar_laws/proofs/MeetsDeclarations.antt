@@ -6,9 +6,9 @@ use Rattle.cmm_lexer.specs.declared.symbol.Symbol.TheVariants.{Assign, Semicolon
 use Rattle.cmm_ast.specs.declared.expression.TypeName.{TypeName}
 use Rattle.cmm_ast.specs.declared.declaration.PropertyForm.TheVariants as properties
 use Rattle.cmm_ast.specs.declared.declaration.ByteOrder.TheVariants as orders
-use Rattle.cmm_ast.specs.Taking.{◌⨾◌, keyword as keyword_is, symbol as symbol_is, optional as optional_is, listed as listed_is, may_comma}
-use Rattle.cmm_ast.specs.ExpressionGrammar as grammar
-use Rattle.cmm_ast.specs.UnitGrammar as units
+use Rattle.cmm_grammar_laws.specs.Taking.{◌⨾◌, keyword as keyword_is, symbol as symbol_is, optional as optional_is, listed as listed_is, may_comma}
+use Rattle.cmm_grammar_laws.specs.ExpressionGrammar as grammar
+use Rattle.cmm_grammar_laws.specs.UnitGrammar as units
 use Rattle.cmm_grammar_laws.specs.Reading.{◌>>=◌}
 use Rattle.cmm_grammar_laws.specs.ExpressionReading.{named_type}
 use Rattle.cmm_grammar_laws.specs.PartReading.{is_any_name, is_any_text, is_width}

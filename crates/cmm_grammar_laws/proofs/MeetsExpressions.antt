@@ -9,9 +9,9 @@ use Rattle.cmm_ast.specs.declared.token.Int.{Int}
 use Rattle.cmm_lexer.specs.declared.keyword.Keyword.TheVariants.{Align, Aligned}
 use Rattle.cmm_ast.specs.declared.expression.TypeForm.TheVariants.{Bits, Named as OfName}
 use Rattle.cmm_ast.specs.declared.expression.Number.TheVariants as number
-use Rattle.cmm_ast.specs.Taking.{Reading, ◌⨾◌, token, taken_if, is_word, is_name, optional as optional_is}
-use Rattle.cmm_ast.specs.ExpressionGrammar as grammar
-use Rattle.cmm_ast.specs.ExpressionGrammar.{width_word, number_of, prim_form, aligned_by}
+use Rattle.cmm_grammar_laws.specs.Taking.{Reading, ◌⨾◌, token, taken_if, is_word, is_name, optional as optional_is}
+use Rattle.cmm_grammar_laws.specs.ExpressionGrammar as grammar
+use Rattle.cmm_grammar_laws.specs.ExpressionGrammar.{width_word, number_of, prim_form, aligned_by}
 use Rattle.cmm_grammar_laws.specs.Reading.{◌>>=◌, give, look, skip, pick, int}
 use Rattle.cmm_grammar_laws.specs.ExpressionReading.{width_in, sized, type_by, type_name, number_in, typed, literal, aligned}
 use Rattle.std.proofs.Math.Bool.{or-true}

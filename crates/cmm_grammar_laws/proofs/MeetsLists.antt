@@ -6,8 +6,8 @@ use Rattle.cmm_lexer.specs.declared.keyword.Keyword.{Keyword}
 use Rattle.cmm_lexer.specs.declared.symbol.Symbol.{Symbol}
 use Rattle.cmm_lexer.specs.declared.symbol.Symbol.TheVariants.{Open, Close, OpenBrace, CloseBrace, OpenSquare, CloseSquare, Comma}
 use Rattle.cmm_lexer.specs.Spellings.{keyword_number, symbol_number}
-use Rattle.cmm_ast.specs.Taking.{Reading, Takes, ◌⨾◌, nothing, token, is_name, is_text, is_int, keyword as keyword_is, symbol as symbol_is, optional as optional_is, many as many_is, commas as commas_is, may_comma as may_comma_is, listed as listed_is, may_list as may_list_is, in_brackets as in_brackets_is, round as round_is, square as square_is, braces as braces_is}
-use Rattle.cmm_ast.specs.ExpressionGrammar.{ident as ident_is, text as text_is, int as int_is}
+use Rattle.cmm_grammar_laws.specs.Taking.{Reading, Takes, ◌⨾◌, nothing, token, is_name, is_text, is_int, keyword as keyword_is, symbol as symbol_is, optional as optional_is, many as many_is, commas as commas_is, may_comma as may_comma_is, listed as listed_is, may_list as may_list_is, in_brackets as in_brackets_is, round as round_is, square as square_is, braces as braces_is}
+use Rattle.cmm_grammar_laws.specs.ExpressionGrammar.{ident as ident_is, text as text_is, int as int_is}
 use Rattle.cmm_grammar_laws.specs.Reading.{Point, Reads, ◌>>=◌, give, next, past, choice, passes, if_next, skip, expect, keyword, symbol, picked, held, pick, name_in, text_in, int_in, name, ident, text, int, is_comma, in_brackets, round, square, braces, optional, many, more_commas, commas, more_listed, listed, may_list}
 use Rattle.cmm_grammar_laws.specs.DeclarationReading.{if_word, if_symbol}
 use Rattle.cmm_grammar_laws.specs.PartReading.{may_comma}

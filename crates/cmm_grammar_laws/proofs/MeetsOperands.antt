@@ -13,9 +13,9 @@ use Rattle.cmm_ast.specs.declared.expression.ExprForm.{ExprForm}
 use Rattle.cmm_ast.specs.declared.expression.ExprForm.TheVariants.{Infix, Prefix, Prim, Memory as InMemory, Named}
 use Rattle.cmm_ast.specs.declared.expression.PrimForm.TheVariants.{Name as NameOf, Bracketed}
 use Rattle.cmm_ast.specs.declared.expression.Memory.{roll-Memory}
-use Rattle.cmm_ast.specs.Taking.{Reading, Takes, ◌⨾◌, token, nothing, is_sign, is_name, is_operator, symbol as symbol_is, here as here_is, operator as operator_is, optional as optional_is, square as square_is}
-use Rattle.cmm_ast.specs.ExpressionGrammar as grammar
-use Rattle.cmm_ast.specs.ExpressionGrammar.{prefix_symbol, infix_symbol, left_level, right_level, unary_level, level_of, expr_form, prim_form, aligned_by}
+use Rattle.cmm_grammar_laws.specs.Taking.{Reading, Takes, ◌⨾◌, token, nothing, is_sign, is_name, is_operator, symbol as symbol_is, here as here_is, operator as operator_is, optional as optional_is, square as square_is}
+use Rattle.cmm_grammar_laws.specs.ExpressionGrammar as grammar
+use Rattle.cmm_grammar_laws.specs.ExpressionGrammar.{prefix_symbol, infix_symbol, left_level, right_level, unary_level, level_of, expr_form, prim_form, aligned_by}
 use Rattle.cmm_grammar_laws.specs.Reading.{Reads, ◌>>=◌, give, look, skip_operator, square, outermost}
 use Rattle.cmm_grammar_laws.specs.ExpressionReading.{prefix_in, bracketed, located, memory, named_type, name_or_memory, prefixed, unary_by, begins_expression, infix_next, joined, climb, operand, expr, whole, prim_by, prim, whole_prim, whole_memory}
 use Rattle.cmm_grammar_laws.proofs.Takings.{taken_then, takes_assoc, takes_nothing, put}

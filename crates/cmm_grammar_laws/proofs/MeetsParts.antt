@@ -9,9 +9,9 @@ use Rattle.cmm_ast.specs.declared.statement.CalleeForm.TheVariants as callees
 use Rattle.cmm_ast.specs.declared.statement.FlowForm.{FlowForm}
 use Rattle.cmm_ast.specs.declared.statement.FlowForm.TheVariants as flows
 use Rattle.cmm_ast.specs.declared.statement.Lvalue.TheVariants as lvalues
-use Rattle.cmm_ast.specs.Taking.{◌⨾◌, is_sign, here as here_is, keyword as keyword_is, symbol as symbol_is, round as round_is, may_list as may_list_is, optional as optional_is, may_comma as may_comma_is}
-use Rattle.cmm_ast.specs.ExpressionGrammar as grammar
-use Rattle.cmm_ast.specs.StatementGrammar as statements
+use Rattle.cmm_grammar_laws.specs.Taking.{◌⨾◌, is_sign, here as here_is, keyword as keyword_is, symbol as symbol_is, round as round_is, may_list as may_list_is, optional as optional_is, may_comma as may_comma_is}
+use Rattle.cmm_grammar_laws.specs.ExpressionGrammar as grammar
+use Rattle.cmm_grammar_laws.specs.StatementGrammar as statements
 use Rattle.cmm_grammar_laws.specs.Reading.{round, may_list}
 use Rattle.cmm_grammar_laws.specs.ExpressionReading.{named_type}
 use Rattle.cmm_grammar_laws.specs.PartReading.{is_any_text, is_any_name, is_width, kinded, actual, arguments, begins_actual, lvalue, called, callee_form, callee, begins_flow, names_to, also, flow_form, flow, annotations, exit, range_end, range}

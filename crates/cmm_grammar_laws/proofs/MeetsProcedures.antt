@@ -10,9 +10,9 @@ use Rattle.cmm_ast.specs.declared.procedure.Modifiers.TheVariants as modifiers
 use Rattle.cmm_ast.specs.declared.procedure.LocalForm.TheVariants as locals
 use Rattle.cmm_ast.specs.declared.procedure.RoomForm.TheVariants as rooms
 use Rattle.cmm_ast.specs.declared.statement.Block.{Block}
-use Rattle.cmm_ast.specs.Taking.{◌⨾◌, keyword as keyword_is, symbol as symbol_is, optional as optional_is}
-use Rattle.cmm_ast.specs.ExpressionGrammar as grammar
-use Rattle.cmm_ast.specs.StatementGrammar as bodies
+use Rattle.cmm_grammar_laws.specs.Taking.{◌⨾◌, keyword as keyword_is, symbol as symbol_is, optional as optional_is}
+use Rattle.cmm_grammar_laws.specs.ExpressionGrammar as grammar
+use Rattle.cmm_grammar_laws.specs.StatementGrammar as bodies
 use Rattle.cmm_grammar_laws.specs.Reading.{Reads}
 use Rattle.cmm_grammar_laws.specs.ExpressionReading.{named_type}
 use Rattle.cmm_grammar_laws.specs.DeclarationReading.{is_other}

@@ -13,9 +13,9 @@ use Rattle.cmm_ast.specs.declared.statement.Case.TheVariants as cases
 use Rattle.cmm_ast.specs.declared.statement.Lvalue.TheVariants as lvalues
 use Rattle.cmm_ast.specs.declared.statement.StmtForm.{StmtForm}
 use Rattle.cmm_ast.specs.declared.statement.StmtForm.TheVariants as stmts
-use Rattle.cmm_ast.specs.Taking.{Takes, ◌⨾◌, is_word, is_sign, keyword as keyword_is, symbol as symbol_is, outermost as outermost_is}
-use Rattle.cmm_ast.specs.ExpressionGrammar as grammar
-use Rattle.cmm_ast.specs.StatementGrammar as bodies
+use Rattle.cmm_grammar_laws.specs.Taking.{Takes, ◌⨾◌, is_word, is_sign, keyword as keyword_is, symbol as symbol_is, outermost as outermost_is}
+use Rattle.cmm_grammar_laws.specs.ExpressionGrammar as grammar
+use Rattle.cmm_grammar_laws.specs.StatementGrammar as bodies
 use Rattle.cmm_grammar_laws.specs.Reading.{Reads}
 use Rattle.cmm_grammar_laws.specs.ExpressionReading.{named_type}
 use Rattle.cmm_grammar_laws.specs.PartReading.{is_any_name, is_width, begins_kinded}

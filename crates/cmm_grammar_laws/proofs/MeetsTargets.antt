@@ -10,9 +10,9 @@ use Rattle.cmm_ast.specs.declared.statement.Callee.{Callee}
 use Rattle.cmm_ast.specs.declared.statement.CalleeForm.{CalleeForm}
 use Rattle.cmm_ast.specs.declared.statement.Kinded.{Kinded}
 use Rattle.cmm_ast.specs.declared.statement.StmtForm.TheVariants as stmts
-use Rattle.cmm_ast.specs.Taking.{Takes, ◌⨾◌, is_word, is_sign, is_checked, keyword as keyword_is, symbol as symbol_is, optional as optional_is, commas as commas_is, listed as listed_is, may_comma as may_comma_is, outermost as outermost_is}
-use Rattle.cmm_ast.specs.ExpressionGrammar as grammar
-use Rattle.cmm_ast.specs.StatementGrammar as bodies
+use Rattle.cmm_grammar_laws.specs.Taking.{Takes, ◌⨾◌, is_word, is_sign, is_checked, keyword as keyword_is, symbol as symbol_is, optional as optional_is, commas as commas_is, listed as listed_is, may_comma as may_comma_is, outermost as outermost_is}
+use Rattle.cmm_grammar_laws.specs.ExpressionGrammar as grammar
+use Rattle.cmm_grammar_laws.specs.StatementGrammar as bodies
 use Rattle.cmm_grammar_laws.specs.Reading.{is_comma, more_listed, checked_in}
 use Rattle.cmm_grammar_laws.specs.ExpressionReading.{begins_expression, whole}
 use Rattle.cmm_grammar_laws.specs.PartReading.{is_any_text}

@@ -1,7 +1,7 @@
 -- Single tokens, counted tokens, brackets and outermost expressions: their readers meet the grammar.
 use Rattle.std.proofs.Common.{◌≡◌, ℕ, suc, ◌+◌, ◌⊎◌, inl, inr, Bool, true, false, List, [], ◌∷◌, ◌++◌, length, Option, Some, None, refl, sym, ap, ◌∙◌, nat_lt, arith, subst, append_assoc, length-append}
 use Rattle.cmm_lexer.specs.declared.piece.Lexeme.{Lexeme}
-use Rattle.cmm_ast.specs.Taking.{Reading, Takes, ◌⨾◌, here as here_is, token, first_over, operator as operator_is, opening as opening_is, enclosed as enclosed_is, outermost as outermost_is}
+use Rattle.cmm_grammar_laws.specs.Taking.{Reading, Takes, ◌⨾◌, here as here_is, token, first_over, operator as operator_is, opening as opening_is, enclosed as enclosed_is, outermost as outermost_is}
 use Rattle.cmm_grammar_laws.specs.Reading.{Point, Fault, TooDeep, Answer, Read, Stopped, Reads, and_then, ◌>>=◌, give, stop, next, past, if_next, here, skip, skip_opening, skip_operator, enclosed, outermost}
 use Rattle.cmm_grammar_laws.specs.ReadingLaws.{within, point}
 use Rattle.cmm_grammar_laws.proofs.Takings.{taken_then, same_number, takes_nothing, put, first_stays, after_operator, after_opening}

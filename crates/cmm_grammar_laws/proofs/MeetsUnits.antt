@@ -13,10 +13,10 @@ use Rattle.cmm_ast.specs.declared.unit.Item.TheVariants as items
 use Rattle.cmm_ast.specs.declared.unit.DatumForm.TheVariants as data_forms
 use Rattle.cmm_ast.specs.declared.unit.Count.TheVariants as counts
 use Rattle.cmm_ast.specs.declared.unit.Initial.TheVariants as initials
-use Rattle.cmm_ast.specs.Taking.{Reading, Takes, ◌⨾◌, nothing, token as token_is, is_name, here as here_is, symbol as symbol_is, optional as optional_is, braces as braces_is, many as many_is}
-use Rattle.cmm_ast.specs.ExpressionGrammar as grammar
-use Rattle.cmm_ast.specs.UnitGrammar as units
-use Rattle.cmm_ast.specs.Derivation.{at_start, Derives, Begins}
+use Rattle.cmm_grammar_laws.specs.Taking.{Reading, Takes, ◌⨾◌, nothing, token as token_is, is_name, here as here_is, symbol as symbol_is, optional as optional_is, braces as braces_is, many as many_is}
+use Rattle.cmm_grammar_laws.specs.ExpressionGrammar as grammar
+use Rattle.cmm_grammar_laws.specs.UnitGrammar as units
+use Rattle.cmm_grammar_laws.specs.Derivation.{at_start, Derives, Begins}
 use Rattle.cmm_grammar_laws.specs.Reading.{Fault, Unexpected, TooDeep, Stopped, Reads, next}
 use Rattle.cmm_grammar_laws.specs.ReadingLaws.{point, Answers}
 use Rattle.cmm_grammar_laws.specs.inside.Duties.{reach, Begun}

@@ -32,11 +32,11 @@ use Rattle.cmm_ast.specs.declared.statement.Span.{Span as SwitchSpan}
 use Rattle.cmm_ast.specs.declared.statement.Stmt.{Stmt}
 use Rattle.cmm_ast.specs.declared.statement.StmtForm.{Row_of-Arm, end_of-Arm, more_of-Arm, items-the_row-Arm, items_hidden-the_row-Arm-2}
 use Rattle.cmm_ast.specs.declared.statement.StmtForm.TheVariants as stmts
-use Rattle.cmm_ast.specs.Taking.{Takes, ◌⨾◌, nothing, token, is_name, keyword, symbol, here, opening, enclosed, outermost, round, square, braces, optional, commas, listed, may_comma}
-use Rattle.cmm_ast.specs.ExpressionGrammar as grammar
-use Rattle.cmm_ast.specs.ExpressionGrammar.{whole, whole_prim, aligned_by, expr_form, level_of, operand}
-use Rattle.cmm_ast.specs.StatementGrammar as bodies
-use Rattle.cmm_ast.specs.StatementGrammar.{case, switch_span, local_form, stmt_form, otherwise_, chained, part_row, part_, arm_row, block}
+use Rattle.cmm_grammar_laws.specs.Taking.{Takes, ◌⨾◌, nothing, token, is_name, keyword, symbol, here, opening, enclosed, outermost, round, square, braces, optional, commas, listed, may_comma}
+use Rattle.cmm_grammar_laws.specs.ExpressionGrammar as grammar
+use Rattle.cmm_grammar_laws.specs.ExpressionGrammar.{whole, whole_prim, aligned_by, expr_form, level_of, operand}
+use Rattle.cmm_grammar_laws.specs.StatementGrammar as bodies
+use Rattle.cmm_grammar_laws.specs.StatementGrammar.{case, switch_span, local_form, stmt_form, otherwise_, chained, part_row, part_, arm_row, block}
 use Rattle.cmm_grammar_laws.specs.PartReading.{called}
 use Rattle.cmm_grammar_laws.specs.TargetReading.{Targets, Names, Lvalues, Results, with_lvalue, callee_of_form, lvalues_of, results_of}
 use Rattle.cmm_grammar_laws.specs.ProcedureReading.{invariant_by}

@@ -5,7 +5,7 @@ use Rattle.std.proofs.lemmas.Bool.Decides.{nat_tests}
 use Rattle.cmm_lexer.specs.declared.piece.Lexeme.{Lexeme}
 use Rattle.cmm_lexer.specs.declared.symbol.Symbol.{Symbol}
 use Rattle.cmm_lexer.specs.declared.symbol.Symbol.TheVariants.{Comma}
-use Rattle.cmm_ast.specs.Taking.{Reading, Takes, ◌⨾◌, nothing, token, taken_if, symbol as symbol_is, here as here_is, outermost as outermost_is, opening as opening_is, enclosed as enclosed_is, many as many_is, commas as commas_is, may_comma, first_over, is_sign, in_brackets as in_brackets_is}
+use Rattle.cmm_grammar_laws.specs.Taking.{Reading, Takes, ◌⨾◌, nothing, token, taken_if, symbol as symbol_is, here as here_is, outermost as outermost_is, opening as opening_is, enclosed as enclosed_is, many as many_is, commas as commas_is, may_comma, first_over, is_sign, in_brackets as in_brackets_is}
 use Rattle.cmm_grammar_laws.specs.Reading.{next, past, passes, is_comma}
 
 -- ---- one after the other

@@ -10,8 +10,8 @@ use Rattle.cmm_ast.specs.declared.token.Int.{Int}
 use Rattle.cmm_lexer.specs.declared.keyword.Keyword.{Keyword}
 use Rattle.cmm_lexer.specs.declared.symbol.Symbol.{Symbol}
 use Rattle.cmm_lexer.specs.Spellings.{keyword_number, symbol_number}
-use Rattle.cmm_ast.specs.Taking.{token, is_word, is_sign, is_name, is_text, is_operator, is_checked, is_int, is_char, keyword as keyword_is, symbol as symbol_is}
-use Rattle.cmm_ast.specs.ExpressionGrammar.{ident as ident_is, text as text_is, int as int_is}
+use Rattle.cmm_grammar_laws.specs.Taking.{token, is_word, is_sign, is_name, is_text, is_operator, is_checked, is_int, is_char, keyword as keyword_is, symbol as symbol_is}
+use Rattle.cmm_grammar_laws.specs.ExpressionGrammar.{ident as ident_is, text as text_is, int as int_is}
 use Rattle.cmm_grammar_laws.specs.Reading.{expect, keyword, symbol, picked, held, pick, name_in, text_in, int_in, checked_in, name, ident, text, int}
 use Rattle.cmm_grammar_laws.specs.inside.Duties.{Complete}
 use Rattle.cmm_grammar_laws.proofs.Takings.{same_number}

@@ -5,9 +5,9 @@ use Rattle.cmm_ast.specs.declared.expression.TypeName.{TypeName}
 use Rattle.cmm_ast.specs.declared.declaration.Import.{Import}
 use Rattle.cmm_ast.specs.declared.declaration.Export.{Export}
 use Rattle.cmm_ast.specs.declared.declaration.Property.{Property}
-use Rattle.cmm_ast.specs.Taking.{Takes, ◌⨾◌, nothing, here as here_is, keyword as keyword_is, optional as optional_is, listed as listed_is, token, square as square_is, braces as braces_is, many as many_is}
-use Rattle.cmm_ast.specs.ExpressionGrammar as grammar
-use Rattle.cmm_ast.specs.UnitGrammar as units
+use Rattle.cmm_grammar_laws.specs.Taking.{Takes, ◌⨾◌, nothing, here as here_is, keyword as keyword_is, optional as optional_is, listed as listed_is, token, square as square_is, braces as braces_is, many as many_is}
+use Rattle.cmm_grammar_laws.specs.ExpressionGrammar as grammar
+use Rattle.cmm_grammar_laws.specs.UnitGrammar as units
 use Rattle.cmm_grammar_laws.specs.DeclarationReading.{Head, TypeFirst, NameFirst, Neither}
 use Rattle.cmm_lexer.specs.declared.keyword.Keyword.TheVariants.{Span}
 use Rattle.cmm_ast.specs.declared.expression.Expr.{Expr}

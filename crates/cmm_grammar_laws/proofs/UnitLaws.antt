@@ -3,9 +3,9 @@ use Rattle.std.proofs.Common.{◌≡◌, ℕ, zero, suc, ◌+◌, ◌<◌, ◌�
 use Rattle.cmm_lexer.specs.declared.piece.Lexeme.{Lexeme}
 use Rattle.cmm_ast.specs.declared.unit.Unit.{Unit as UnitTree}
 use Rattle.cmm_ast.specs.declared.unit.TopLevel.{TopLevel}
-use Rattle.cmm_ast.specs.Taking.{many as many_is}
-use Rattle.cmm_ast.specs.UnitGrammar as units
-use Rattle.cmm_ast.specs.Derivation.{at_start, Derives, Begins, IsUnexpected, IsTooDeep}
+use Rattle.cmm_grammar_laws.specs.Taking.{many as many_is}
+use Rattle.cmm_grammar_laws.specs.UnitGrammar as units
+use Rattle.cmm_grammar_laws.specs.Derivation.{at_start, Derives, Begins, IsUnexpected, IsTooDeep}
 use Rattle.cmm_grammar_laws.specs.Reading.{Point, Read, Reads, ◌>>=◌, give, next, choice, passes, many, Stopped, Unexpected, TooDeep}
 use Rattle.cmm_grammar_laws.specs.ReadingLaws.{within, point, TakesAll, Answers}
 use Rattle.cmm_grammar_laws.specs.inside.Duties.{Complete, Local}

@@ -1,8 +1,8 @@
 -- What complete and local readers say of all of some tokens.
 use Rattle.std.proofs.Common.{◌≡◌, ℕ, zero, suc, ◌+◌, ◌-◌, ◌<◌, ◌≤◌, true, false, List, [], ◌∷◌, ◌++◌, length, take, Option, Some, None, refl, sym, ap, ◌∙◌, subst, arith, le_refl}
 use Rattle.cmm_lexer.specs.declared.piece.Lexeme.{Lexeme}
-use Rattle.cmm_ast.specs.Taking.{Reading, Takes}
-use Rattle.cmm_ast.specs.Derivation.{at_start}
+use Rattle.cmm_grammar_laws.specs.Taking.{Reading, Takes}
+use Rattle.cmm_grammar_laws.specs.Derivation.{at_start}
 use Rattle.cmm_grammar_laws.specs.Reading.{Fault, Unexpected, TooDeep, Read, Stopped, Reads, next, Point}
 use Rattle.cmm_grammar_laws.specs.ReadingLaws.{point, TakesAll, Answers}
 use Rattle.cmm_grammar_laws.specs.inside.Duties.{outcome, Complete, Local, Same}

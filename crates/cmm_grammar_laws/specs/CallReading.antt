@@ -7,7 +7,7 @@ use Rattle.cmm_ast.specs.declared.statement.Callee.{Callee}
 use Rattle.cmm_ast.specs.declared.statement.Kinded.{Kinded}
 use Rattle.cmm_ast.specs.declared.statement.StmtForm.{StmtForm}
 use Rattle.cmm_ast.specs.declared.statement.StmtForm.TheVariants as stmts
-use Rattle.cmm_ast.specs.Taking.{is_word}
+use Rattle.cmm_grammar_laws.specs.Taking.{is_word}
 use Rattle.cmm_grammar_laws.specs.Reading.{Reads, ◌>>=◌, give, if_next, skip, symbol, text}
 use Rattle.cmm_grammar_laws.specs.PartReading.{arguments, callee, annotations}
 

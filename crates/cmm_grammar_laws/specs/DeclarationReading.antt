@@ -21,7 +21,7 @@ use Rattle.cmm_ast.specs.declared.declaration.PropertyForm.{PropertyForm}
 use Rattle.cmm_ast.specs.declared.declaration.PropertyForm.TheVariants as properties
 use Rattle.cmm_ast.specs.declared.declaration.ByteOrder.{ByteOrder}
 use Rattle.cmm_ast.specs.declared.declaration.ByteOrder.TheVariants as orders
-use Rattle.cmm_ast.specs.Taking.{is_word, is_sign}
+use Rattle.cmm_grammar_laws.specs.Taking.{is_word, is_sign}
 use Rattle.cmm_grammar_laws.specs.Reading.{Reads, ◌>>=◌, give, if_next, here, skip, keyword, symbol, ident, text, int, optional, many, more_listed, listed}
 use Rattle.cmm_grammar_laws.specs.ExpressionReading.{type_name, named_type, whole}
 use Rattle.cmm_grammar_laws.specs.PartReading.{is_any_name, is_any_text, is_width}

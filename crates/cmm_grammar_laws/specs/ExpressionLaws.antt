@@ -3,7 +3,7 @@
 use Rattle.std.specs.Prelude.{◌≡◌, ℕ, suc, ◌<◌, List, length, take, ◌++◌, true, Some, None}
 use Rattle.cmm_lexer.specs.declared.piece.Lexeme.{Lexeme}
 use Rattle.cmm_ast.specs.declared.expression.Expr.{Expr}
-use Rattle.cmm_ast.specs.ExpressionGrammar as grammar
+use Rattle.cmm_grammar_laws.specs.ExpressionGrammar as grammar
 use Rattle.cmm_grammar_laws.specs.Reading.{Point, Unexpected, TooDeep, Read, Stopped}
 use Rattle.cmm_grammar_laws.specs.ReadingLaws.{within, point, TakesAll, Answers}
 use Rattle.cmm_grammar_laws.specs.ExpressionReading.{whole}

@@ -25,8 +25,8 @@ use Rattle.cmm_ast.specs.declared.expression.Primary.{Primary}
 use Rattle.cmm_ast.specs.declared.expression.PrimForm.{PrimForm}
 use Rattle.cmm_ast.specs.declared.expression.PrimForm.TheVariants.{Literal, Name as NameOf, Bracketed}
 use Rattle.cmm_ast.specs.declared.expression.Memory.{Memory, roll-Memory}
-use Rattle.cmm_ast.specs.Taking.{is_word, is_sign}
-use Rattle.cmm_ast.specs.ExpressionGrammar.{width_word, infix_symbol, prefix_symbol, infix_level, left_level, right_level, unary_level, level_of}
+use Rattle.cmm_grammar_laws.specs.Taking.{is_word, is_sign}
+use Rattle.cmm_grammar_laws.specs.ExpressionGrammar.{width_word, infix_symbol, prefix_symbol, infix_level, left_level, right_level, unary_level, level_of}
 use Rattle.cmm_grammar_laws.specs.Reading.{Reads, ◌>>=◌, ◌>>◌, give, stop, look, if_next, here, skip, skip_operator, pick, ident, int, round, square, outermost, listed}
 
 -- ---- which words and symbols are widths and operators

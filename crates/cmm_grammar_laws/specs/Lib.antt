@@ -1,3 +1,8 @@
+pub mod Taking
+pub mod ExpressionGrammar
+pub mod StatementGrammar
+pub mod UnitGrammar
+pub mod Derivation
 pub mod Reading
 pub mod ReadingLaws
 pub mod ExpressionReading

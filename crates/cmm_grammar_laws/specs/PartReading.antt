@@ -19,7 +19,7 @@ use Rattle.cmm_ast.specs.declared.statement.Kinded.{Kinded}
 use Rattle.cmm_ast.specs.declared.statement.Lvalue.{Lvalue}
 use Rattle.cmm_ast.specs.declared.statement.Lvalue.TheVariants as lvalues
 use Rattle.cmm_ast.specs.declared.statement.Range.{Range}
-use Rattle.cmm_ast.specs.Taking.{is_word, is_sign}
+use Rattle.cmm_grammar_laws.specs.Taking.{is_word, is_sign}
 use Rattle.cmm_grammar_laws.specs.Reading.{Reads, ◌>>=◌, give, if_next, here, skip, keyword, symbol, ident, text, round, outermost, optional, many, listed, may_list, is_comma}
 use Rattle.cmm_grammar_laws.specs.ExpressionReading.{width_in, type_name, named_type, begins_expression, whole, whole_prim, whole_memory}
 

@@ -18,7 +18,7 @@ use Rattle.cmm_ast.specs.declared.procedure.Room.{Room}
 use Rattle.cmm_ast.specs.declared.procedure.RoomForm.{RoomForm}
 use Rattle.cmm_ast.specs.declared.procedure.RoomForm.TheVariants as rooms
 use Rattle.cmm_ast.specs.declared.statement.Block.{Block}
-use Rattle.cmm_ast.specs.Taking.{is_word, is_sign}
+use Rattle.cmm_grammar_laws.specs.Taking.{is_word, is_sign}
 use Rattle.cmm_grammar_laws.specs.Reading.{Reads, ◌>>=◌, give, if_next, here, keyword, symbol, ident, int, optional, many, may_list, round, square, braces}
 use Rattle.cmm_grammar_laws.specs.ExpressionReading.{width_in, type_name, named_type, whole}
 use Rattle.cmm_grammar_laws.specs.DeclarationReading.{is_other, if_word, if_symbol, optional_text, bits, names}

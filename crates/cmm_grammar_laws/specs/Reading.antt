@@ -9,7 +9,7 @@ use Rattle.cmm_ast.specs.declared.token.Int.{Int}
 use Rattle.cmm_lexer.specs.declared.keyword.Keyword.{Keyword}
 use Rattle.cmm_lexer.specs.declared.symbol.Symbol.{Symbol}
 use Rattle.cmm_lexer.specs.declared.symbol.Symbol.TheVariants.{Open, Close, OpenBrace, CloseBrace, OpenSquare, CloseSquare, Comma}
-use Rattle.cmm_ast.specs.Taking.{is_word, is_sign}
+use Rattle.cmm_grammar_laws.specs.Taking.{is_word, is_sign}
 
 -- where a parser stands
 pub record Point : Type 0 where

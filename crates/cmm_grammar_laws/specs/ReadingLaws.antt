@@ -1,8 +1,8 @@
 -- How a reader stands to the trees of the grammar: on points, and on all of some tokens.
 use Rattle.std.specs.Prelude.{◌≡◌, ℕ, ◌<◌, true, List, [], length, Some, None}
 use Rattle.cmm_lexer.specs.declared.piece.Lexeme.{Lexeme}
-use Rattle.cmm_ast.specs.Taking.{Reading, Takes}
-use Rattle.cmm_ast.specs.Derivation.{at_start}
+use Rattle.cmm_grammar_laws.specs.Taking.{Reading, Takes}
+use Rattle.cmm_grammar_laws.specs.Derivation.{at_start}
 use Rattle.cmm_grammar_laws.specs.Reading.{Point, Answer, Reads}
 
 -- a reader keeps nothing of tokens over a limit: it stops there

@@ -28,7 +28,7 @@ use Rattle.cmm_ast.specs.declared.statement.Span.{Span as SwitchSpan}
 use Rattle.cmm_ast.specs.declared.statement.Stmt.{Stmt}
 use Rattle.cmm_ast.specs.declared.statement.StmtForm.{StmtForm}
 use Rattle.cmm_ast.specs.declared.statement.StmtForm.TheVariants as stmts
-use Rattle.cmm_ast.specs.Taking.{is_word, is_sign}
+use Rattle.cmm_grammar_laws.specs.Taking.{is_word, is_sign}
 use Rattle.cmm_grammar_laws.specs.Reading.{Reads, ◌>>=◌, give, stop, look, if_next, here, skip, skip_opening, keyword, symbol, ident, text, round, square, braces, enclosed, optional, many, commas, may_list}
 use Rattle.cmm_grammar_laws.specs.ExpressionReading.{type_name, named_type, whole, whole_prim, whole_memory}
 use Rattle.cmm_grammar_laws.specs.PartReading.{is_any_name, is_width, begins_kinded, kinded, arguments, callee, annotations, exit, range}

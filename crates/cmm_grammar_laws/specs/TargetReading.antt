@@ -20,7 +20,7 @@ use Rattle.cmm_ast.specs.declared.statement.Lvalue.{Lvalue}
 use Rattle.cmm_ast.specs.declared.statement.Lvalue.TheVariants as lvalues
 use Rattle.cmm_ast.specs.declared.statement.StmtForm.{StmtForm}
 use Rattle.cmm_ast.specs.declared.statement.StmtForm.TheVariants as stmts
-use Rattle.cmm_ast.specs.Taking.{is_word, is_sign}
+use Rattle.cmm_grammar_laws.specs.Taking.{is_word, is_sign}
 use Rattle.cmm_grammar_laws.specs.Reading.{Reads, ◌>>=◌, give, stop, if_next, here, skip, symbol, checked_in, pick, round, is_comma, listed, more_listed}
 use Rattle.cmm_grammar_laws.specs.ExpressionReading.{begins_expression, whole}
 use Rattle.cmm_grammar_laws.specs.PartReading.{is_any_text, kinded, lvalue, annotations}

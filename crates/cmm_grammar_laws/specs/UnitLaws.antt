@@ -4,7 +4,7 @@ use Rattle.std.specs.Prelude.{◌≡◌, ℕ, List, true}
 use Rattle.cmm_lexer.specs.declared.piece.Lexeme.{Lexeme}
 use Rattle.cmm_ast.specs.declared.unit.Unit.{Unit as UnitTree}
 use Rattle.cmm_ast.specs.declared.unit.TopLevel.{TopLevel}
-use Rattle.cmm_ast.specs.Derivation.{at_start, Derives, DerivesWithin, IsUnexpected, IsTooDeep}
+use Rattle.cmm_grammar_laws.specs.Derivation.{at_start, Derives, DerivesWithin, IsUnexpected, IsTooDeep}
 use Rattle.cmm_grammar_laws.specs.Reading.{Point, Unexpected, TooDeep, Answer, Read, Stopped, Reads}
 use Rattle.cmm_grammar_laws.specs.ReadingLaws.{point, Answers}
 use Rattle.cmm_grammar_laws.specs.StatementReading.{block}

@@ -18,7 +18,7 @@ use Rattle.cmm_ast.specs.declared.unit.Count.{Count}
 use Rattle.cmm_ast.specs.declared.unit.Count.TheVariants as counts
 use Rattle.cmm_ast.specs.declared.unit.Initial.{Initial}
 use Rattle.cmm_ast.specs.declared.unit.Initial.TheVariants as initials
-use Rattle.cmm_ast.specs.Taking.{is_word, is_sign}
+use Rattle.cmm_grammar_laws.specs.Taking.{is_word, is_sign}
 use Rattle.cmm_grammar_laws.specs.Reading.{Reads, ◌>>=◌, give, stop, if_next, here, keyword, symbol, ident, text, int, many, listed, square, braces}
 use Rattle.cmm_grammar_laws.specs.ExpressionReading.{named_type, begins_expression, whole, whole_prim}
 use Rattle.cmm_grammar_laws.specs.DeclarationReading.{is_other, if_symbol, bits, decl}

@@ -2,7 +2,7 @@
 use Rattle.std.proofs.Common.{◌≡◌, ℕ, ◌+◌, ◌<◌, length, map, take, get_or, ap, ◌∙◌, List, [], ◌∷◌, ◌++◌, arith}
 use Rattle.cmm_ast.specs.declared.statement.Part.{Part}
 use Rattle.cmm_static_semantics.specs.Limits.{site_count, sites_of}
-use Rattle.cmm_symbols.proofs.Shared.{mapped_next}
+use Rattle.cmm_static_semantics.proofs.Shared.{mapped_next}
 
 pub count_push : (ps : List Part) (p : Part) → site_count (ps ++ p ∷ []) ≡ site_count ps + sites_of p
 count_push [] p = omega arith

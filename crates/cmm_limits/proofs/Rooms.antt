@@ -14,7 +14,7 @@ use Rattle.cmm_static_semantics.specs.declared.spot.Spot.{Spot}
 use Rattle.cmm_static_semantics.specs.Spots.{first_of, unless}
 use Rattle.cmm_static_semantics.specs.Scopes.{Scope, types}
 use Rattle.cmm_static_semantics.specs.Limits.{room_piece, room_limits}
-use Rattle.cmm_symbols.proofs.Shared.{first_of_append}
+use Rattle.cmm_static_semantics.proofs.Shared.{first_of_append}
 use Rattle.cmm_check_declarations.proofs.Shared.{aligned_by, bytes_bounds}
 use Rattle.cmm_limits.specs.inside.Ends.{IsWithin, form_piece}
 

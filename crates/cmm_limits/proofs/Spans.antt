@@ -22,8 +22,7 @@ use Rattle.cmm_static_semantics.specs.Limits.{different, is_in, is_site, number_
 use Rattle.cmm_static_semantics.specs.Scopes.{Scope, senses}
 use Rattle.cmm_static_semantics.specs.Senses.{Senses}
 use Rattle.cmm_static_semantics.specs.Typing.{of_primary}
-use Rattle.cmm_static_semantics.proofs.Shared.{if_inside, span_inside, switch_inside, else_inside, else_if_inside}
-use Rattle.cmm_symbols.proofs.Shared.{flat_plain}
+use Rattle.cmm_static_semantics.proofs.Shared.{if_inside, span_inside, switch_inside, else_inside, else_if_inside, flat_plain}
 use Rattle.cmm_limits.specs.Capped.{capped}
 use Rattle.cmm_limits.specs.inside.InForce.{HasTokens, one_more, parts_of_arms, tokens_at}
 

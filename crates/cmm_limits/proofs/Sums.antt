@@ -13,8 +13,7 @@ use Rattle.cmm_static_semantics.specs.Items.{SpanTree, Within, item_within, item
 use Rattle.cmm_static_semantics.specs.Limits.{over_procs, site_tokens, site_variables, tokens_of}
 use Rattle.cmm_static_semantics.specs.Senses.{Senses}
 use Rattle.cmm_static_semantics.specs.Statements.{scope_of}
-use Rattle.cmm_static_semantics.proofs.Shared.{span_item_inside}
-use Rattle.cmm_symbols.proofs.Shared.{flat_plain, taken}
+use Rattle.cmm_static_semantics.proofs.Shared.{span_item_inside, flat_plain, taken}
 use Rattle.cmm_proc_scope.specs.Procs.{item_procs, procs_of_items}
 use Rattle.cmm_limits.specs.Capped.{capped}
 use Rattle.cmm_limits.specs.inside.OfUnits.{proc_variables, procs_variables, spans_in}

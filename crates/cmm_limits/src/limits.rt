@@ -1,5 +1,5 @@
 //! The limits on a procedure.
-#![tactic(auto, using(cmm_symbols::proofs::Shared::first_of_append))]
+#![tactic(auto, using(cmm_static_semantics::proofs::Shared::first_of_append))]
 
 ghost use Rattle.std.specs.Prelude.{◌≡◌, ◌+◌, ◌-◌, nat_le, map};
 ghost use Rattle.cmm_static_semantics.specs.Expressions.{past_limit};
@@ -17,8 +17,7 @@ use crate::stackdata::note_rooms;
 use cmm_ast::{Ident, Proc};
 use cmm_proc_scope::{BodyNames, ProcNames};
 use cmm_rules::Rule;
-use cmm_static_semantics::Spot;
-use cmm_symbols::unless;
+use cmm_static_semantics::{Spot, unless};
 use cmm_typing::Names;
 
 /// How many tokens a procedure may have, from its name to its closing brace.

@@ -1,5 +1,5 @@
 //! Where the stackdata of a procedure ends. What is broken takes no room.
-#![tactic(auto, using(cmm_symbols::proofs::Shared::first_of_append))]
+#![tactic(auto, using(cmm_static_semantics::proofs::Shared::first_of_append))]
 
 ghost use Rattle.std.specs.Prelude.{◌≡◌, ◌≤◌, ◌∷◌, [], ℕ, map};
 ghost use Rattle.std.specs.Option.{ForSome};
@@ -17,8 +17,7 @@ use cmm_ast::{Int, Room, RoomForm};
 use cmm_check_declarations::{bytes_of, laid, words_in};
 use cmm_proc_scope::BodyNames;
 use cmm_rules::Rule;
-use cmm_static_semantics::Spot;
-use cmm_symbols::unless;
+use cmm_static_semantics::{Spot, unless};
 use cmm_typing::{Names, is_alignment};
 
 /// The most bytes that the stackdata of a procedure may have, with its padding: 64 KiB.

@@ -26,12 +26,11 @@ use Rattle.cmm_static_semantics.specs.declared.sense.Sense.TheVariants as senses
 use Rattle.cmm_static_semantics.specs.Senses.{host_named}
 use Rattle.cmm_static_semantics.specs.Declarations.{Declared, Entry as UnitEntry, NamedUnit}
 use Rattle.cmm_static_semantics.specs.Linking.{Program, Published, address_of, exports_of, export_links, imported, published, published_as, is_among, in_order, register_names, registers_of, program_of}
-use Rattle.cmm_static_semantics.proofs.Shared.{among_append, among_in_order, is_in_order, same_order}
+use Rattle.cmm_static_semantics.proofs.Shared.{among_append, among_in_order, is_in_order, same_order, mapped_next}
 use Rattle.cmm_symbols.specs.Indexed.{indexed, or_else}
 use Rattle.cmm_symbols.specs.Shown.{entry_shown}
 use Rattle.cmm_symbols.specs.declared.entry.Entry.{Entry}
 use Rattle.cmm_symbols.specs.declared.index.Index.{Index}
-use Rattle.cmm_symbols.proofs.Shared.{mapped_next}
 use Rattle.cmm_linkage.specs.declared.linkage.Exported.{Exported}
 use Rattle.cmm_linkage.specs.declared.register.Register.{Register}
 use Rattle.cmm_linkage.specs.Exports.{exported_links}

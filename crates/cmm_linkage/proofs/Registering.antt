@@ -12,7 +12,8 @@ use Rattle.cmm_symbols.specs.Numbering.{numbering, number_in}
 use Rattle.cmm_symbols.specs.Shown.{shown, with_what}
 use Rattle.cmm_symbols.specs.declared.table.Named.{Named}
 use Rattle.cmm_symbols.specs.declared.entry.Entry.{Entry as EntryTree}
-use Rattle.cmm_symbols.proofs.Shared.{found_with, mapped_next, rest_next}
+use Rattle.cmm_static_semantics.proofs.Shared.{mapped_next, rest_next}
+use Rattle.cmm_symbols.proofs.Shared.{found_with}
 use Rattle.cmm_linkage.specs.Registers.{registers_in}
 use Rattle.cmm_linkage.specs.inside.Counted.{is_numbered, counted}
 

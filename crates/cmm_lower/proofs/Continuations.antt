@@ -10,7 +10,7 @@ use Rattle.cmm_ast.specs.declared.statement.FlowForm.{FlowForm}
 use Rattle.cmm_ast.specs.declared.statement.FlowForm.TheVariants as flows
 use Rattle.cmm_static_semantics.specs.Calls.{flow_names}
 use Rattle.cmm_static_semantics.specs.Scopes.{Scope}
-use Rattle.cmm_symbols.proofs.Shared.{flat_plain}
+use Rattle.cmm_static_semantics.proofs.Shared.{flat_plain}
 use Rattle.cmm_elaboration.specs.Sites.{continuation_of}
 use Rattle.cmm_lower.specs.Fitting.{FlowsFit, IsContinuation}
 use Rattle.cmm_lower.specs.declared.exits.Exits.{Exits}

@@ -13,7 +13,7 @@ use Rattle.cmm_ast.specs.declared.statement.Span.{Span as SwitchSpan}
 use Rattle.cmm_ast.specs.declared.statement.Stmt.{Stmt}
 use Rattle.cmm_ast.specs.declared.statement.StmtForm.{StmtForm, Row_of-Arm, end_of-Arm, more_of-Arm, items-the_row-Arm, items_hidden-the_row-Arm-2}
 use Rattle.cmm_ast.specs.declared.statement.StmtForm.TheVariants as stmts
-use Rattle.cmm_symbols.proofs.Shared.{taken}
+use Rattle.cmm_static_semantics.proofs.Shared.{taken}
 use Rattle.cmm_elaboration.specs.Bodies.{blocks_length, otherwise_length, part_length, row_length}
 use Rattle.cmm_elaboration.specs.Bodies as meaning
 use Rattle.cmm_lower.specs.inside.Lengths.{arm_length, arms_length, parts_length, total}

@@ -10,7 +10,7 @@ use Rattle.cmm_static_semantics.specs.Items.{SpanTree, Within}
 use Rattle.cmm_static_semantics.specs.Limits.{site_count}
 use Rattle.cmm_static_semantics.specs.Scopes.{Scope, senses}
 use Rattle.cmm_symbols.specs.Shown.{whats}
-use Rattle.cmm_symbols.proofs.Shared.{taken}
+use Rattle.cmm_static_semantics.proofs.Shared.{taken}
 use Rattle.cmm_elaboration.specs.Sites.{SpanValue, innermost, part_sites, sites_among, span_value}
 use Rattle.cmm_elaboration.proofs.Shared.{count_append, length_is, whats_append}
 use Rattle.cmm_typing.proofs.Shared.{all_left, all_right}

@@ -16,12 +16,11 @@ use Rattle.cmm_ast.specs.declared.unit.TopLevel.{TopLevel}
 use Rattle.cmm_ast.specs.declared.unit.TopLevel.TheVariants as tops
 use Rattle.cmm_program.specs.declared.procedure.Proc.{Proc}
 use Rattle.cmm_static_semantics.specs.Items.{SpanTree, Within, within, item_within, top_items}
-use Rattle.cmm_static_semantics.proofs.Shared.{span_item_inside}
+use Rattle.cmm_static_semantics.proofs.Shared.{span_item_inside, flat_plain}
 use Rattle.cmm_static_semantics.specs.Senses.{Senses}
 use Rattle.cmm_elaboration.specs.Meaning.{item_procedures}
 use Rattle.cmm_elaboration.specs.Procedures.{procedure_of}
 use Rattle.cmm_elaboration.specs.Sites.{SpanValue, innermost, span_value, with_span}
-use Rattle.cmm_symbols.proofs.Shared.{flat_plain}
 use Rattle.cmm_typing.proofs.Shared.{all_left, all_right}
 use Rattle.cmm_lower.specs.Fitting.{ItemFits, ProcFits}
 use Rattle.cmm_lower.specs.inside.Sections.{ItemAdded, ItemsAdded}

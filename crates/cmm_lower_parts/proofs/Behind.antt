@@ -11,7 +11,7 @@ use Rattle.cmm_ast.specs.declared.procedure.RoomForm.TheVariants as rooms
 use Rattle.cmm_program.specs.declared.procedure.StackItem.{StackItem}
 use Rattle.cmm_static_semantics.specs.Scopes.{Scope}
 use Rattle.cmm_elaboration.specs.Procedures.{label_alignment, stack_items}
-use Rattle.cmm_symbols.proofs.Shared.{rest_next}
+use Rattle.cmm_static_semantics.proofs.Shared.{rest_next}
 use Rattle.cmm_lower_parts.specs.Held.{item_held}
 use Rattle.cmm_lower_parts.specs.inside.Rooms.{alignment_before, form_item}
 

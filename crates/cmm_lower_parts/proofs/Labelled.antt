@@ -13,7 +13,7 @@ use Rattle.cmm_program.specs.declared.program.Label.{Label}
 use Rattle.cmm_static_semantics.specs.Items.{SpanTree, Within, top_items, within}
 use Rattle.cmm_elaboration.specs.Data.{datums_among, datums_in, item_labels, label_at, section_labels, standing, unit_labels}
 use Rattle.cmm_elaboration.proofs.Shared.{among_append}
-use Rattle.cmm_symbols.proofs.Shared.{grown, taken}
+use Rattle.cmm_static_semantics.proofs.Shared.{grown, taken}
 use Rattle.cmm_lower_parts.specs.Held.{held, label_held}
 use Rattle.cmm_lower_parts.proofs.Holding.{held_same}
 

@@ -7,7 +7,7 @@ use denote.Ref.{Bor}
 use Rattle.cmm_ast.specs.declared.declaration.Export.{Export}
 use Rattle.cmm_static_semantics.specs.Linking.{export_link}
 use Rattle.cmm_elaboration.specs.Data.{links_of}
-use Rattle.cmm_symbols.proofs.Shared.{mapped_next}
+use Rattle.cmm_static_semantics.proofs.Shared.{mapped_next}
 use Rattle.cmm_lower_parts.specs.Exported.{link_if}
 
 abbrev listed : Option (List (Bor (List ℕ))) → List (List ℕ)

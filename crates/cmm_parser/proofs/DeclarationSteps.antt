@@ -8,7 +8,7 @@ use Rattle.cmm_grammar_laws.specs.PartReading.{is_width}
 use Rattle.cmm_grammar_laws.specs.DeclarationReading.{bits}
 use Rattle.cmm_grammar_laws.specs.StatementReading.{block}
 use Rattle.cmm_grammar_laws.specs.UnitReading.{span, item, flat_item}
-use Rattle.cmm_ast.specs.Taking.{is_word}
+use Rattle.cmm_grammar_laws.specs.Taking.{is_word}
 use Rattle.cmm_lexer.specs.declared.keyword.Keyword.TheVariants.{Span as SpanWord}
 use Rattle.cmm_ast.specs.declared.unit.Item.{Item}
 use Rattle.cmm_parser.specs.declared.fault.Stop.{Stop}

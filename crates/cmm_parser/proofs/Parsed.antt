@@ -3,7 +3,7 @@ use Rattle.std.proofs.Common.{◌≡◌, refl, suc, List, length, inl, inr, Resu
 use Rattle.cmm_lexer.specs.declared.piece.Lexeme.{Lexeme}
 use Rattle.cmm_ast.specs.declared.unit.Unit.{Unit as UnitTree}
 use Rattle.cmm_ast.specs.declared.unit.TopLevel.{TopLevel}
-use Rattle.cmm_ast.specs.Derivation.{DerivesWithin, at_start}
+use Rattle.cmm_grammar_laws.specs.Derivation.{DerivesWithin, at_start}
 use Rattle.cmm_grammar_laws.specs.Reading.{Point}
 use Rattle.cmm_grammar_laws.specs.ReadingLaws.{point}
 use Rattle.cmm_grammar_laws.specs.UnitLaws.{whole_unit}

@@ -2,7 +2,7 @@
 
 ghost use Rattle.std.specs.Prelude.{◌≡◌, ◌-◌, ◌<◌, ◌≤◌, length, Ok, OnOk};
 ghost use Rattle.cmm_lexer.specs.Spellings.{keyword_number};
-ghost use Rattle.cmm_ast.specs.Taking.{is_word};
+ghost use Rattle.cmm_grammar_laws.specs.Taking.{is_word};
 ghost use Rattle.cmm_lexer.specs.declared.keyword.Keyword.{Keyword};
 ghost use Rattle.cmm_lexer.specs.declared.symbol.Symbol.{Symbol};
 ghost use Rattle.cmm_grammar_laws.specs.Reading.{next, passes};

@@ -2,7 +2,7 @@
 
 ghost use Rattle.std.specs.Prelude.{◌≡◌, ◌-◌, ◌<◌, ◌≤◌, ◌∷◌, [], None, Some, length, IfOk, OnOk};
 ghost use Rattle.cmm_lexer.specs.Spellings.{symbol_number};
-ghost use Rattle.cmm_ast.specs.Taking.{is_sign};
+ghost use Rattle.cmm_grammar_laws.specs.Taking.{is_sign};
 ghost use Rattle.cmm_lexer.specs.declared.symbol.Symbol.TheVariants.{Open, Less};
 ghost use Rattle.cmm_ast.specs.declared.statement.Lvalue.TheVariants as lvalues;
 ghost use Rattle.cmm_grammar_laws.specs.declared.told_apart.Targets.TheVariants as targets;

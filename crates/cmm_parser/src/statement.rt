@@ -3,7 +3,7 @@
 ghost use Rattle.std.specs.Prelude.{◌≡◌, ◌+◌, ◌-◌, ◌<◌, ◌≤◌, ◌∷◌, ◌++◌, [], length, IfOk, OnOk};
 ghost use Rattle.cmm_lexer.specs.declared.symbol.Symbol.TheVariants.{OpenSquare};
 ghost use Rattle.cmm_lexer.specs.Spellings.{symbol_number};
-ghost use Rattle.cmm_ast.specs.Taking.{is_sign};
+ghost use Rattle.cmm_grammar_laws.specs.Taking.{is_sign};
 ghost use Rattle.cmm_ast.specs.declared.statement.StmtForm.TheVariants as stmts;
 ghost use Rattle.cmm_grammar_laws.specs.declared.told_apart.PartForm.TheVariants as forms;
 ghost use Rattle.cmm_grammar_laws.specs.Reading.{braces, optional, many};

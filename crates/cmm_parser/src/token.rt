@@ -2,7 +2,7 @@
 
 ghost use Rattle.std.specs.Prelude.{◌≡◌, ◌+◌, ◌-◌, ◌^◌, ◌<◌, ◌≤◌, length, Ok, Some, IsTrue, IsFalse, OnOk, OnSome, MatchOption, option_map};
 ghost use Rattle.cmm_lexer.specs.Spellings.{keyword_number, symbol_number};
-ghost use Rattle.cmm_ast.specs.Taking.{is_word, is_sign};
+ghost use Rattle.cmm_grammar_laws.specs.Taking.{is_word, is_sign};
 ghost use Rattle.cmm_grammar_laws.specs.Reading.{next, past, passes};
 ghost use Rattle.cmm_grammar_laws.specs.Reading as readers;
 ghost use Rattle.cmm_grammar_laws.specs.ExpressionReading.{operator_name};

@@ -7,7 +7,8 @@ use Rattle.cmm_static_semantics.specs.Declarations.{Declared, Local, Variable, R
 use Rattle.cmm_symbols.specs.Indexed.{or_else}
 use Rattle.cmm_symbols.specs.Shown.{named, with_what}
 use Rattle.cmm_symbols.specs.declared.table.Named.{Named}
-use Rattle.cmm_symbols.proofs.Shared.{found_push, found_with, again_with, mapped_next}
+use Rattle.cmm_static_semantics.proofs.Shared.{mapped_next}
+use Rattle.cmm_symbols.proofs.Shared.{found_push, found_with, again_with}
 use Rattle.cmm_proc_scope.specs.declared.own.Local.{Local as Own}
 use Rattle.cmm_proc_scope.specs.declared.own.Numbered.{Numbered}
 use Rattle.cmm_proc_scope.specs.declared.numbering.Counts.{Counts}

@@ -10,9 +10,8 @@ use Rattle.cmm_ast.specs.declared.procedure.Proc.{Proc}
 use Rattle.cmm_ast.specs.declared.unit.Item.{Item, Row_of-Item, end_of-Item, more_of-Item}
 use Rattle.cmm_ast.specs.declared.unit.Item.TheVariants as items
 use Rattle.cmm_static_semantics.specs.Items.{SpanTree, Within, within, item_within, items_within}
-use Rattle.cmm_static_semantics.proofs.Shared.{span_item_inside}
+use Rattle.cmm_static_semantics.proofs.Shared.{span_item_inside, flat_plain}
 use Rattle.cmm_symbols.specs.Shown.{whats}
-use Rattle.cmm_symbols.proofs.Shared.{flat_plain}
 use Rattle.cmm_proc_scope.specs.Procs.{item_procs, procs_of_items, BeginWith}
 
 pub procs_append : (xs ys : List (Within Item)) → procs_of_items (xs ++ ys) ≡ procs_of_items xs ++ procs_of_items ys

@@ -7,9 +7,8 @@ use Rattle.cmm_ast.specs.declared.expression.Primary.{Primary}
 use Rattle.cmm_ast.specs.declared.unit.Item.{Item}
 use Rattle.cmm_ast.specs.declared.unit.Item.TheVariants as items
 use Rattle.cmm_static_semantics.specs.Items.{SpanTree, Within, item_within}
-use Rattle.cmm_static_semantics.proofs.Shared.{span_item_inside}
+use Rattle.cmm_static_semantics.proofs.Shared.{span_item_inside, flat_plain}
 use Rattle.cmm_symbols.specs.Shown.{whats}
-use Rattle.cmm_symbols.proofs.Firsts.{flat_plain}
 
 -- what stands in a span
 pub span_law : (spans : List SpanTree) (i : Item) (t : ℕ) (key : Primary) (value : Expr) (inside : List Item) → i ≡ items.Span t key value inside →

@@ -9,7 +9,7 @@ use Rattle.cmm_static_semantics.specs.Declarations.{Declared, found, again}
 use Rattle.cmm_symbols.specs.Indexed.{or_else}
 use Rattle.cmm_symbols.specs.Shown.{named, with_what}
 use Rattle.cmm_symbols.specs.declared.table.Named.{Named}
-use Rattle.cmm_symbols.proofs.Firsts.{first_of_append, mapped_next}
+use Rattle.cmm_static_semantics.proofs.Shared.{first_of_append, mapped_next}
 
 abbrev or_found : {A : Type 0} → Bool → A → Option A → Option A
 or_found b a o = elim b [ true ↦ Some a | false ↦ o ]

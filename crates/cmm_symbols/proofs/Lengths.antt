@@ -7,7 +7,7 @@ use Rattle.cmm_static_semantics.specs.declared.spot.Spot.{Spot}
 use Rattle.cmm_static_semantics.specs.Spots.{first_of}
 use Rattle.cmm_static_semantics.specs.LongNames.{long_spots}
 use Rattle.cmm_symbols.specs.Noted.{long_of}
-use Rattle.cmm_symbols.proofs.Firsts.{first_of_append, flat_plain, flat_next, mapped_next, taken}
+use Rattle.cmm_static_semantics.proofs.Shared.{first_of_append, flat_plain, flat_next, mapped_next, taken}
 
 pub long_is : (best : Option Spot) (names : List Ident) → long_of best names ≡ first_of best (flat_map long_spots names)
 unfolding long_of

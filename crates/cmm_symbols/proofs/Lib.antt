@@ -1,4 +1,3 @@
-pub mod Firsts
 pub mod Lengths
 pub mod Found
 pub mod Positions

@@ -6,7 +6,7 @@ use Rattle.cmm_static_semantics.specs.Items.{Within, within}
 use Rattle.cmm_static_semantics.specs.Declarations.{Declared, Entry, item_entries, procs_in, labels_in, entries_from, sum_of}
 use Rattle.cmm_symbols.specs.Shown.{whats, thing_item, alone}
 use Rattle.cmm_symbols.specs.declared.thing.Thing.{Thing}
-use Rattle.cmm_symbols.proofs.Firsts.{rest_next}
+use Rattle.cmm_static_semantics.proofs.Shared.{rest_next}
 
 -- a turn of the loop that declares: what is declared so far, and then what the rest declares, is what all do
 pub declared_next : (before after whole : List (Declared Entry)) (p l p' l' : ℕ) (ts : List Thing) (k : ℕ) (t : Thing) → k < length ts → t ≡ get_or ts k t →

@@ -8,7 +8,7 @@ use Rattle.cmm_rules.specs.Rules.{rule_number}
 use Rattle.cmm_rules.proofs.Shared.{one_rule}
 use Rattle.cmm_static_semantics.specs.declared.spot.Spot.{Spot}
 use Rattle.cmm_static_semantics.specs.Spots.{sooner_by, first_by, comes_before}
-use Rattle.cmm_symbols.proofs.Firsts.{first_by_append}
+use Rattle.cmm_static_semantics.proofs.Shared.{first_by_append}
 
 -- ---- orders: of two that are not the same, one comes before the other
 

@@ -12,7 +12,7 @@ use Rattle.cmm_symbols.specs.Numbering.{numbering}
 use Rattle.cmm_symbols.specs.Shown.{named, shown, with_what}
 use Rattle.cmm_symbols.specs.declared.table.Named.{Named}
 use Rattle.cmm_symbols.specs.declared.entry.Entry.{Entry}
-use Rattle.cmm_symbols.proofs.Firsts.{mapped_next}
+use Rattle.cmm_static_semantics.proofs.Shared.{mapped_next}
 use Rattle.cmm_symbols.proofs.Found.{again_pushed, found_push, found_with}
 
 pub numbering_last : {A : Type 0} (ds : List (Declared A)) (d : Declared A) → numbering (ds ++ d ∷ []) ≡ numbering ds ++ record { name = d.name; as_what = length ds } ∷ []

@@ -6,7 +6,7 @@
 //! - `thing`, `piece`: what stands in a unit and in a body, whatever it is nested in.
 //! - `entry`, `declaring`: what names are declared as, and where. `numbers`: how procedures and data labels are counted. `host`: names of the
 //!   host.
-//! - `table`, `index`: names that are found by their bytes. `noting`: how the first fault is kept.
+//! - `table`, `index`: names that are found by their bytes.
 //! - `long`, `long_expression`, `long_statement`, `long_item`: names that are too long.
 #![tactic(auto)]
 
@@ -18,7 +18,6 @@ mod long;
 mod long_expression;
 mod long_item;
 mod long_statement;
-mod noting;
 mod numbers;
 mod piece;
 mod table;
@@ -29,7 +28,6 @@ pub use entry::Entry;
 pub use host::{host_named, is_host};
 pub use index::Index;
 pub use long_item::note_things;
-pub use noting::unless;
 pub use numbers::Numbers;
 pub use piece::{Piece, pieces_of};
 pub use table::{Named, Table};

@@ -7,10 +7,9 @@ ghost use Rattle.cmm_static_semantics.specs.Mentions.{ident, listed};
 ghost use Rattle.cmm_static_semantics.specs.LongNames.{of_text};
 ghost use Rattle.cmm_symbols.specs.Noted.{long_of};
 
-use crate::noting::unless;
 use cmm_ast::{Ident, Text};
 use cmm_rules::Rule;
-use cmm_static_semantics::Spot;
+use cmm_static_semantics::{Spot, unless};
 
 /// The longest name, in bytes.
 pub(crate) const NAME_LIMIT: usize = 255;

@@ -8,11 +8,10 @@ ghost use Rattle.cmm_symbols.specs.Numbering.{numbering};
 ghost use Rattle.cmm_symbols.specs.Shown.{named};
 
 use crate::index::Index;
-use crate::noting::unless;
 use cmm_ast::Ident;
 use cmm_items::Items;
 use cmm_rules::Rule;
-use cmm_static_semantics::Spot;
+use cmm_static_semantics::{Spot, unless};
 use cmm_words::Name;
 use std::alloc::{AllocError, Global};
 

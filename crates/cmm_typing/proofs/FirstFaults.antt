@@ -4,7 +4,7 @@ use Rattle.std.specs.Prelude.{flat_map}
 use Rattle.std.proofs.lemmas.Grind.{flat_map-append}
 use Rattle.cmm_static_semantics.specs.declared.spot.Spot.{Spot}
 use Rattle.cmm_static_semantics.specs.Spots.{first_of}
-use Rattle.cmm_symbols.proofs.Shared.{first_of_append, flat_plain}
+use Rattle.cmm_static_semantics.proofs.Shared.{first_of_append, flat_plain}
 use Rattle.cmm_typing.specs.inside.Noted.{noted_in}
 
 pub noted_is : {A : Type 0} (f : A → List Spot) (best : Option Spot) (xs : List A) → noted_in f best xs ≡ first_of best (flat_map f xs)

@@ -10,7 +10,7 @@ use Rattle.cmm_ast.specs.declared.expression.TypeForm.{TypeForm}
 use Rattle.cmm_ast.specs.declared.expression.TypeForm.TheVariants.{Bits as OfBits, Named as OfName}
 use Rattle.cmm_static_semantics.specs.Declarations.{Declared, Typedef}
 use Rattle.cmm_static_semantics.specs.Mentions.{listed, ident, values_alone, expr_names}
-use Rattle.cmm_symbols.proofs.Shared.{flat_plain}
+use Rattle.cmm_static_semantics.proofs.Shared.{flat_plain}
 use Rattle.cmm_symbols.specs.Numbering.{number_in}
 use Rattle.cmm_unit_scope.specs.Numbers.{type_number}
 use Rattle.cmm_unit_scope.specs.Depending.{numbers_of, mentioned_by}

@@ -2,7 +2,7 @@
 -- does not go on, its answer hangs on no token beyond the one that it looks at, and it stops no later than it must.
 use Rattle.std.specs.Prelude.{◌≡◌, ℕ, suc, ◌+◌, ◌-◌, ◌<◌, ◌≤◌, Bool, true, false, List, [], ◌++◌, length, take, Option, Some, None}
 use Rattle.cmm_lexer.specs.declared.piece.Lexeme.{Lexeme}
-use Rattle.cmm_ast.specs.Taking.{Reading, Takes}
+use Rattle.cmm_grammar_laws.specs.Taking.{Reading, Takes}
 use Rattle.cmm_grammar_laws.specs.Reading.{Point, Fault, Unexpected, TooDeep, Answer, Read, Stopped, Reads, next}
 use Rattle.cmm_grammar_laws.specs.ReadingLaws.{within, point}
 

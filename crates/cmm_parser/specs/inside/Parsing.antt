@@ -5,7 +5,7 @@ use Rattle.cmm_lexer.specs.declared.keyword.Keyword.{Keyword}
 use Rattle.cmm_lexer.specs.declared.piece.Lexeme.{Lexeme}
 use Rattle.cmm_lexer.specs.declared.piece.Lexeme.TheVariants as l
 use Rattle.cmm_grammar_laws.specs.Reading.{Point, Unexpected, TooDeep, Answer, Read, Stopped, Reads, next, past, passes, and_then, if_next, skip_opening, stop as refuse, symbol}
-use Rattle.cmm_ast.specs.Taking.{is_word, is_sign}
+use Rattle.cmm_grammar_laws.specs.Taking.{is_word, is_sign}
 use Rattle.cmm_lexer.specs.declared.keyword.Keyword.TheVariants.{If}
 use Rattle.cmm_lexer.specs.declared.symbol.Symbol.{Symbol}
 use Rattle.cmm_ast.specs.declared.expression.TypeName.{TypeName}

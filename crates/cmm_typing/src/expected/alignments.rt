@@ -10,8 +10,7 @@ ghost use Rattle.cmm_typing.specs.inside.Noted.{noted_in};
 
 use cmm_ast::{Expr, ExprForm, Int, Memory, PrimForm};
 use cmm_rules::Rule;
-use cmm_static_semantics::Spot;
-use cmm_symbols::unless;
+use cmm_static_semantics::{Spot, unless};
 
 /// Whether something may be aligned to this number of bytes.
 pub fn is_alignment(bytes: u64) -> bool

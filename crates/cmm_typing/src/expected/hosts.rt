@@ -9,8 +9,7 @@ ghost use Rattle.cmm_typing.specs.inside.Noted.{noted_in};
 use crate::names::Names;
 use cmm_ast::{Expr, ExprForm, Memory, PrimForm};
 use cmm_rules::Rule;
-use cmm_static_semantics::{Sense, Spot};
-use cmm_symbols::unless;
+use cmm_static_semantics::{Sense, Spot, unless};
 use cmm_words::Name;
 
 fn is_not_host(sense: Option<Sense>) -> bool

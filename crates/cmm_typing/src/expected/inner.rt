@@ -1,5 +1,5 @@
 //! What is broken in an expression whatever is wanted of it.
-#![tactic(auto, using(cmm_symbols::proofs::Shared::first_of_append, crate::proofs::FirstFaults::noted_is))]
+#![tactic(auto, using(cmm_static_semantics::proofs::Shared::first_of_append, crate::proofs::FirstFaults::noted_is))]
 
 ghost use Rattle.std.specs.Prelude.{◌≡◌, ℕ};
 ghost use Rattle.cmm_static_semantics.specs.Expressions as expressions;

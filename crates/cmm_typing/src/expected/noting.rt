@@ -1,5 +1,5 @@
 //! The first fault of types and of expressions, by what is wanted of them.
-#![tactic(auto, using(cmm_symbols::proofs::Shared::first_of_append))]
+#![tactic(auto, using(cmm_static_semantics::proofs::Shared::first_of_append))]
 
 ghost use Rattle.std.specs.Prelude.{◌≡◌};
 ghost use Rattle.cmm_static_semantics.specs.Expressions as expressions;
@@ -19,8 +19,7 @@ use crate::names::Names;
 use cmm_ast::{Expr, Memory, Primary, TypeName};
 use cmm_operators::Judged;
 use cmm_rules::Rule;
-use cmm_static_semantics::Spot;
-use cmm_symbols::unless;
+use cmm_static_semantics::{Spot, unless};
 use cmm_words::Width;
 
 /// Notes where a judgement is broken, if it is and if that is not named elsewhere.

@@ -1,5 +1,5 @@
 use Rattle.cmm_static_semantics.specs.Expressions.{constant_alone_spots}
-use Rattle.cmm_symbols.proofs.Shared.{noted_next}
+use Rattle.cmm_static_semantics.proofs.Shared.{noted_next}
 use Rattle.cmm_check_declarations.proofs.data.note_values.Goals as goal
 
 pub loop-value-preserved : goal.loop-value-preserved

@@ -1,5 +1,5 @@
 use Rattle.cmm_symbols.specs.Shown.{shown}
-use Rattle.cmm_symbols.proofs.Shared.{noted_next_of}
+use Rattle.cmm_static_semantics.proofs.Shared.{noted_next_of}
 use Rattle.cmm_check_declarations.specs.EntryFaults.{entry_value_spots}
 use Rattle.cmm_check_declarations.proofs.entries.note_entries.Goals as goal
 

@@ -1,6 +1,6 @@
 use Rattle.cmm_static_semantics.specs.Units.{item_spots}
 use Rattle.cmm_symbols.specs.Shown.{thing_item}
-use Rattle.cmm_symbols.proofs.Shared.{noted_next_of}
+use Rattle.cmm_static_semantics.proofs.Shared.{noted_next_of}
 use Rattle.cmm_check_declarations.proofs.items.note_items.Goals as goal
 
 pub loop-thing-preserved : goal.loop-thing-preserved

@@ -1,5 +1,5 @@
 use Rattle.cmm_static_semantics.specs.Statements.{room_spots}
-use Rattle.cmm_symbols.proofs.Shared.{noted_next}
+use Rattle.cmm_static_semantics.proofs.Shared.{noted_next}
 use Rattle.cmm_proc_scope.specs.Bodies.{scope_of_body}
 use Rattle.cmm_check_procedure.proofs.declaring.note_rooms.Goals as goal
 

@@ -1,4 +1,4 @@
-use Rattle.cmm_symbols.proofs.Shared.{noted_next}
+use Rattle.cmm_static_semantics.proofs.Shared.{noted_next}
 use Rattle.cmm_proc_scope.specs.Bodies.{scope_of_body}
 use Rattle.cmm_check_procedure.specs.inside.Formals.{formal_spots}
 use Rattle.cmm_check_procedure.proofs.declaring.note_types.Goals as goal

@@ -1,5 +1,5 @@
 use Rattle.std.specs.Prelude.{flat_map, None}
-use Rattle.cmm_symbols.proofs.Shared.{noted_next}
+use Rattle.cmm_static_semantics.proofs.Shared.{noted_next}
 use Rattle.cmm_static_semantics.specs.Expressions.{bits_spots}
 use Rattle.cmm_static_semantics.specs.Scopes.{senses}
 use Rattle.cmm_proc_scope.specs.Bodies.{scope_of_body}

@@ -1,5 +1,5 @@
 use Rattle.cmm_static_semantics.specs.Statements.{part_spots}
-use Rattle.cmm_symbols.proofs.Shared.{noted_next_of}
+use Rattle.cmm_static_semantics.proofs.Shared.{noted_next_of}
 use Rattle.cmm_symbols.specs.Shown.{piece_part}
 use Rattle.cmm_proc_scope.specs.Bodies.{scope_of_body}
 use Rattle.cmm_check_procedure.proofs.procedure.note_parts.Goals as goal

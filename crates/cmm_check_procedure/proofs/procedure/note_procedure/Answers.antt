@@ -1,5 +1,5 @@
 use Rattle.std.proofs.Common.{map, ap, ◌∙◌}
-use Rattle.cmm_symbols.proofs.Shared.{on_ok}
+use Rattle.cmm_static_semantics.proofs.Shared.{on_ok}
 use Rattle.cmm_symbols.specs.Shown.{piece_part}
 use Rattle.cmm_proc_scope.specs.Bodies.{scope_of_body}
 use Rattle.cmm_check_procedure.proofs.Whole.{whole}

@@ -1,4 +1,4 @@
-use Rattle.cmm_symbols.proofs.Shared.{on_ok}
+use Rattle.cmm_static_semantics.proofs.Shared.{on_ok}
 use Rattle.cmm_proc_scope.specs.Bodies.{scope_of_body}
 use Rattle.cmm_check_procedure.proofs.StatementFaults.{both_parts}
 use Rattle.cmm_check_procedure.proofs.statement.note_statement.Goals as goal

@@ -5,7 +5,7 @@ use Rattle.cmm_static_semantics.specs.Spots.{first_by}
 use Rattle.cmm_check_units.specs.inside.Flat.{flats_broken, placed}
 use Rattle.cmm_check_units.specs.inside.Units.{AreEarlier, unit_flat}
 use Rattle.cmm_check_units.specs.declared.unit_names.UnitNames.{UnitNames}
-use Rattle.cmm_symbols.proofs.Shared.{mapped_next}
+use Rattle.cmm_static_semantics.proofs.Shared.{mapped_next}
 use Rattle.cmm_check_units.proofs.FirstUnit.{later_step, here_step}
 use Rattle.cmm_check_units.proofs.checking.first_of_all.Goals as goal
 

@@ -3,7 +3,7 @@ use Rattle.std.specs.Prelude.{flat_map}
 use Rattle.std.proofs.lemmas.List.{length-map}
 use Rattle.cmm_static_semantics.specs.Spots.{first_of}
 use Rattle.cmm_symbols.specs.Shown.{shown}
-use Rattle.cmm_symbols.proofs.Shared.{noted_next_of}
+use Rattle.cmm_static_semantics.proofs.Shared.{noted_next_of}
 use Rattle.cmm_unit_scope.proofs.Shared.{entry_listed}
 use Rattle.cmm_check_units.specs.inside.Cyclic.{entry_cycle_spots}
 use Rattle.cmm_check_units.proofs.Cyclic.{counted_now}

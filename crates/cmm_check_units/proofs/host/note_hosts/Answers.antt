@@ -1,6 +1,6 @@
 use Rattle.cmm_static_semantics.specs.Declarations.{host_again}
 use Rattle.cmm_symbols.specs.Shown.{shown}
-use Rattle.cmm_symbols.proofs.Shared.{noted_next_of}
+use Rattle.cmm_static_semantics.proofs.Shared.{noted_next_of}
 use Rattle.cmm_check_units.proofs.host.note_hosts.Goals as goal
 
 pub loop-named-preserved : goal.loop-named-preserved

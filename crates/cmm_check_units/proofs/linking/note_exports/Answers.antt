@@ -1,7 +1,7 @@
 use Rattle.std.proofs.Common.{map}
 use Rattle.cmm_static_semantics.specs.Linking.{export_spots}
 use Rattle.cmm_symbols.specs.Shown.{shown}
-use Rattle.cmm_symbols.proofs.Shared.{noted_next_of}
+use Rattle.cmm_static_semantics.proofs.Shared.{noted_next_of}
 use Rattle.cmm_check_units.proofs.linking.note_exports.Goals as goal
 
 pub loop-export-preserved : goal.loop-export-preserved

@@ -1,7 +1,7 @@
 use Rattle.cmm_static_semantics.specs.Linking.{import_spots}
 use Rattle.cmm_linkage.specs.Exports.{exported_links}
 use Rattle.cmm_symbols.specs.Shown.{shown}
-use Rattle.cmm_symbols.proofs.Shared.{noted_next_of}
+use Rattle.cmm_static_semantics.proofs.Shared.{noted_next_of}
 use Rattle.cmm_check_units.proofs.linking.note_imports.Goals as goal
 
 pub loop-named-preserved : goal.loop-named-preserved

@@ -1,7 +1,7 @@
 use Rattle.std.proofs.Common.{◌+◌, ◌||◌, map, drop, sym, ap, ◌∙◌}
 use Rattle.cmm_static_semantics.specs.Linking.{starts}
 use Rattle.cmm_symbols.specs.Shown.{shown}
-use Rattle.cmm_symbols.proofs.Shared.{rest_next}
+use Rattle.cmm_static_semantics.proofs.Shared.{rest_next}
 use Rattle.cmm_check_units.proofs.linking.starts.Goals as goal
 
 pub loop-export-preserved : goal.loop-export-preserved

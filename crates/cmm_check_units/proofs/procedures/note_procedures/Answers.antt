@@ -1,6 +1,6 @@
 use Rattle.cmm_ast.specs.declared.unit.Item.TheVariants as items
 use Rattle.cmm_static_semantics.specs.Faults.{item_procedure_spots}
-use Rattle.cmm_symbols.proofs.Shared.{noted_next}
+use Rattle.cmm_static_semantics.proofs.Shared.{noted_next}
 use Rattle.cmm_check_units.proofs.procedures.note_procedures.Goals as goal
 
 pub loop-own-preserved : goal.loop-own-preserved

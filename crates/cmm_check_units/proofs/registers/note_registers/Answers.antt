@@ -4,7 +4,7 @@ use Rattle.std.proofs.lemmas.List.{take_all}
 use Rattle.cmm_static_semantics.specs.Judging.{if_ok}
 use Rattle.cmm_static_semantics.specs.Spots.{first_of}
 use Rattle.cmm_static_semantics.specs.Typing.{type_width}
-use Rattle.cmm_symbols.proofs.Shared.{noted_next_of}
+use Rattle.cmm_static_semantics.proofs.Shared.{noted_next_of}
 use Rattle.cmm_check_units.specs.inside.Flat.{register_spots_by}
 use Rattle.cmm_linkage.specs.Registers.{register_shown}
 use Rattle.cmm_unit_scope.specs.Types.{senses_of}

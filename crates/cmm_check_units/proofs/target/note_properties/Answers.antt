@@ -1,5 +1,5 @@
 use Rattle.cmm_static_semantics.specs.Units.{property_spots}
-use Rattle.cmm_symbols.proofs.Shared.{noted_at}
+use Rattle.cmm_static_semantics.proofs.Shared.{noted_at}
 use Rattle.cmm_check_units.proofs.target.note_properties.Goals as goal
 
 pub loop-property-preserved : goal.loop-property-preserved

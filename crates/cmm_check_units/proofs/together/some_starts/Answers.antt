@@ -3,7 +3,7 @@ use Rattle.cmm_static_semantics.specs.Linking.{starts}
 use Rattle.cmm_check_units.specs.inside.Flat.{some_starts}
 use Rattle.cmm_symbols.specs.Shown.{shown}
 use Rattle.cmm_check_units.specs.inside.Units.{unit_flat}
-use Rattle.cmm_symbols.proofs.Shared.{rest_next}
+use Rattle.cmm_static_semantics.proofs.Shared.{rest_next}
 use Rattle.cmm_check_units.proofs.together.some_starts.Goals as goal
 
 pub loop-unit-preserved : goal.loop-unit-preserved

@@ -2,7 +2,7 @@ use Rattle.std.proofs.Common.{◌+◌, map, take, Bor}
 use Rattle.cmm_ast.specs.declared.procedure.Room.{Room}
 use Rattle.cmm_static_semantics.specs.Limits.{room_piece}
 use Rattle.cmm_program.specs.Layout.{end_of}
-use Rattle.cmm_symbols.proofs.Shared.{mapped_next}
+use Rattle.cmm_static_semantics.proofs.Shared.{mapped_next}
 use Rattle.cmm_proc_scope.specs.Bodies.{scope_of_body}
 use Rattle.cmm_limits.proofs.Rooms.{walked, within_bounds}
 use Rattle.cmm_limits.proofs.stackdata.note_rooms.Goals as goal

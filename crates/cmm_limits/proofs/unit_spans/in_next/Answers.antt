@@ -2,7 +2,7 @@ use Rattle.std.proofs.Common.{◌≡◌, [], ap, ◌∙◌}
 use Rattle.cmm_static_semantics.specs.Items.{parts_in}
 use Rattle.cmm_static_semantics.specs.Limits.{site_tokens}
 use Rattle.cmm_static_semantics.specs.Statements.{scope_of}
-use Rattle.cmm_symbols.proofs.Shared.{on_ok}
+use Rattle.cmm_static_semantics.proofs.Shared.{on_ok}
 use Rattle.cmm_limits.specs.Capped.{capped}
 use Rattle.cmm_limits.proofs.Spans.{from_ok}
 use Rattle.cmm_limits.proofs.unit_spans.in_next.Goals as goal

@@ -1,5 +1,5 @@
 use Rattle.std.proofs.Common.{List, [], ◌∷◌, ℕ, map, subst, sym, take}
-use Rattle.cmm_symbols.proofs.Shared.{mapped_next}
+use Rattle.cmm_static_semantics.proofs.Shared.{mapped_next}
 use Rattle.cmm_linkage.specs.inside.Linkages.{AreAdded, names_shown}
 use Rattle.cmm_linkage.proofs.Gathering.{both_added}
 use Rattle.cmm_linkage.proofs.register_names.add_names.Goals as goal

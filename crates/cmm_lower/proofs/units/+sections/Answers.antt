@@ -1,7 +1,7 @@
 use Rattle.std.proofs.Common.{[], ◌++◌, sym, ap, ◌∙◌}
 use Rattle.std.specs.Prelude.{flat_map}
 use Rattle.cmm_static_semantics.specs.Items.{item_within}
-use Rattle.cmm_symbols.proofs.Shared.{on_ok}
+use Rattle.cmm_static_semantics.proofs.Shared.{on_ok}
 use Rattle.cmm_proc_scope.specs.Procs.{BeginWith, procs_of_items}
 use Rattle.cmm_proc_scope.proofs.Shared.{begin_as, begin_turn, left_of_one, left_turn, next_of_one, procs_of_span}
 use Rattle.cmm_lower.proofs.Sections.{part_next, proc_added, span_added}

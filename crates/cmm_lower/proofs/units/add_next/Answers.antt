@@ -3,7 +3,7 @@ use Rattle.cmm_ast.specs.declared.procedure.Proc.{Proc as ProcTree}
 use Rattle.cmm_static_semantics.specs.Items.{SpanTree}
 use Rattle.cmm_elaboration.specs.Procedures.{procedure_of}
 use Rattle.cmm_elaboration.specs.Sites.{innermost, span_value}
-use Rattle.cmm_symbols.proofs.Shared.{on_ok}
+use Rattle.cmm_static_semantics.proofs.Shared.{on_ok}
 use Rattle.cmm_lower.specs.Fitting.{ProcFits}
 use Rattle.cmm_lower.proofs.units.add_next.Goals as goal
 

@@ -1,7 +1,7 @@
 use Rattle.std.proofs.Common.{[], ◌++◌, sym, ap, ◌∙◌}
 use Rattle.std.specs.Prelude.{flat_map}
 use Rattle.cmm_static_semantics.specs.Items.{item_within, top_items}
-use Rattle.cmm_symbols.proofs.Shared.{on_ok}
+use Rattle.cmm_static_semantics.proofs.Shared.{on_ok}
 use Rattle.cmm_proc_scope.specs.Procs.{procs_of_items}
 use Rattle.cmm_proc_scope.proofs.Shared.{begin_as, left_of_one, next_of_one}
 use Rattle.cmm_lower.proofs.Sections.{alone_added, section_added}

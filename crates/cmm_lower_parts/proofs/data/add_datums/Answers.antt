@@ -3,7 +3,7 @@ use Rattle.std.specs.Prelude.{flat_map}
 use Rattle.std.proofs.lemmas.List.{map-append, take_all}
 use Rattle.cmm_elaboration.specs.Data.{item_datums}
 use Rattle.cmm_symbols.specs.Shown.{thing_item}
-use Rattle.cmm_symbols.proofs.Shared.{flat_next, grown}
+use Rattle.cmm_static_semantics.proofs.Shared.{flat_next, grown}
 use Rattle.cmm_lower_parts.specs.Held.{datum_held}
 use Rattle.cmm_lower_parts.proofs.Holding.{datums_same}
 use Rattle.cmm_lower_parts.proofs.data.add_datums.Goals as goal

@@ -1,6 +1,6 @@
 use Rattle.std.proofs.Common.{sym, subst, [], ◌∷◌, map, take}
 use Rattle.cmm_symbols.specs.Shown.{alone}
-use Rattle.cmm_symbols.proofs.Shared.{mapped_next}
+use Rattle.cmm_static_semantics.proofs.Shared.{mapped_next}
 use Rattle.cmm_lower_parts.specs.inside.Passing.{Passes}
 use Rattle.cmm_lower_parts.proofs.Passing.{passes_then, passes_none}
 use Rattle.cmm_lower_parts.proofs.labels.pass_things.Goals as goal

@@ -1,7 +1,7 @@
 use Rattle.std.proofs.Common.{sym, ap, ◌∙◌, subst, [], ◌∷◌, ◌++◌, take}
 use Rattle.cmm_ast.specs.declared.statement.Actual.{Actual}
 use Rattle.cmm_elaboration.specs.Resolving.{value_of, values_of}
-use Rattle.cmm_symbols.proofs.Shared.{mapped_next}
+use Rattle.cmm_static_semantics.proofs.Shared.{mapped_next}
 use Rattle.cmm_typing.specs.Resolved.{AlignmentsFit}
 use Rattle.cmm_lower_parts.proofs.values.values_of.Goals as goal
 

@@ -1,5 +1,5 @@
 use Rattle.std.proofs.Common.{map, take, ◌++◌, sym, ap, ◌∙◌}
-use Rattle.cmm_symbols.proofs.Shared.{mapped_next}
+use Rattle.cmm_static_semantics.proofs.Shared.{mapped_next}
 use Rattle.cmm_proc_scope.specs.Owned.{own_declared}
 use Rattle.cmm_proc_scope.specs.inside.Variables.{names_if_variable, variable_names}
 use Rattle.cmm_proc_scope.proofs.VariableNames.{variables_push}

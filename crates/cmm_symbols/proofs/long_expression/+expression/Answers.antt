@@ -3,7 +3,7 @@ use Rattle.cmm_ast.specs.declared.expression.Memory.{out-Memory}
 use Rattle.cmm_static_semantics.specs.Mentions.{type_names, all_names}
 use Rattle.cmm_static_semantics.specs.LongNames.{of_expr}
 use Rattle.cmm_symbols.proofs.Lengths.{long_append, long_next}
-use Rattle.cmm_symbols.proofs.Mentioned.{infix_law, prefix_law, named_law, bracketed_law, memory_law}
+use Rattle.cmm_static_semantics.proofs.Shared.{infix_law, prefix_law, named_law, bracketed_law, memory_law}
 use Rattle.cmm_symbols.proofs.long_expression.+expression.Goals as goal
 
 pub note_expr-returns-in-Infix : goal.note_expr-returns-in-Infix

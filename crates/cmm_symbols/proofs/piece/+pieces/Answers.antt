@@ -5,7 +5,7 @@ use Rattle.cmm_ast.specs.declared.statement.Part.TheVariants as parts
 use Rattle.cmm_static_semantics.specs.Items.{part_within, parts_in, parts_otherwise}
 use Rattle.cmm_symbols.specs.inside.Arms.{in_arms}
 use Rattle.cmm_symbols.specs.Shown.{piece_part, whats}
-use Rattle.cmm_symbols.proofs.Firsts.{grown, on_ok, flat_plain}
+use Rattle.cmm_static_semantics.proofs.Shared.{grown, on_ok, flat_plain}
 use Rattle.cmm_symbols.proofs.Flattening.{whats_next, nested, nested_twice}
 use Rattle.cmm_symbols.proofs.Nested.{if_law, span_law, switch_law, else_law, else_if_law}
 use Rattle.cmm_symbols.proofs.piece.+pieces.Goals as goal

@@ -3,7 +3,7 @@ use Rattle.std.specs.Prelude.{flat_map}
 use Rattle.std.proofs.lemmas.List.{map-append}
 use Rattle.cmm_static_semantics.specs.Items.{item_within}
 use Rattle.cmm_symbols.specs.Shown.{thing_item, whats}
-use Rattle.cmm_symbols.proofs.Firsts.{grown, on_ok}
+use Rattle.cmm_static_semantics.proofs.Shared.{grown, on_ok}
 use Rattle.cmm_symbols.proofs.Flattening.{span_law, whats_next, nested}
 use Rattle.cmm_symbols.proofs.thing.+things.Goals as goal
 

@@ -3,7 +3,7 @@ use Rattle.cmm_ast.specs.declared.expression.PrimForm.{PrimForm}
 use Rattle.cmm_static_semantics.specs.Mentions.{values_alone, expr_names, prim_names}
 use Rattle.cmm_symbols.specs.Numbering.{numbering}
 use Rattle.cmm_symbols.specs.Shown.{shown}
-use Rattle.cmm_symbols.proofs.Shared.{infix_law, prefix_law, named_law, bracketed_law, memory_law}
+use Rattle.cmm_static_semantics.proofs.Shared.{infix_law, prefix_law, named_law, bracketed_law, memory_law}
 use Rattle.cmm_unit_scope.specs.inside.Numbered.{numbers_in}
 use Rattle.cmm_unit_scope.proofs.Listed.{added_twice, numbers_append, operands_next}
 use Rattle.cmm_unit_scope.proofs.mentioned.+expression.Goals as goal

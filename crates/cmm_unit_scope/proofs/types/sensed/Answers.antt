@@ -3,7 +3,7 @@ use Rattle.cmm_static_semantics.specs.declared.sense.Sense.{Sense}
 use Rattle.cmm_symbols.specs.Shown.{shown, entry_shown}
 use Rattle.cmm_symbols.specs.declared.table.Named.{Named}
 use Rattle.cmm_symbols.specs.declared.entry.Entry.{Entry}
-use Rattle.cmm_symbols.proofs.Shared.{mapped_next}
+use Rattle.cmm_static_semantics.proofs.Shared.{mapped_next}
 use Rattle.cmm_unit_scope.specs.Types.{type_sense}
 use Rattle.cmm_unit_scope.specs.inside.Numbers.{sense_by}
 use Rattle.cmm_unit_scope.proofs.Meanings.{sense_listed}

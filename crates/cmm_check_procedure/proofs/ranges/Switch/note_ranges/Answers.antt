@@ -1,7 +1,7 @@
 use Rattle.std.proofs.Common.{◌+◌, ◌∷◌, sym, subst, take}
 use Rattle.std.specs.Prelude.{option_map}
 use Rattle.std.proofs.lemmas.List.{take_all}
-use Rattle.cmm_symbols.proofs.Shared.{taken}
+use Rattle.cmm_static_semantics.proofs.Shared.{taken}
 use Rattle.cmm_static_semantics.specs.Switches.{range_extent, range_spots, ranges_spots, with_extents}
 use Rattle.cmm_check_procedure.specs.Extents.{shown}
 use Rattle.cmm_check_procedure.specs.inside.Earlier.{AreEarlier}

@@ -6,7 +6,7 @@ use Rattle.cmm_lexer.specs.declared.piece.Lexeme.{Lexeme}
 use Rattle.cmm_ast.specs.declared.expression.Expr.{Expr}
 use Rattle.cmm_ast.specs.declared.expression.ExprForm.{ExprForm}
 use Rattle.cmm_ast.specs.declared.token.Int.{Int}
-use Rattle.cmm_ast.specs.ExpressionGrammar.{unary_level}
+use Rattle.cmm_grammar_laws.specs.ExpressionGrammar.{unary_level}
 use Rattle.cmm_grammar_laws.specs.Reading.{Reads, ◌>>=◌, give, listed, more_listed}
 use Rattle.cmm_grammar_laws.specs.ExpressionReading as readers
 use Rattle.cmm_grammar_laws.specs.ExpressionReading.{begins_expression}

@@ -1,4 +1,4 @@
-use Rattle.cmm_ast.specs.Taking.{is_sign}
+use Rattle.cmm_grammar_laws.specs.Taking.{is_sign}
 use Rattle.cmm_grammar_laws.specs.Reading.{◌>>=◌, if_next, give, round}
 use Rattle.cmm_grammar_laws.specs.ExpressionReading.{whole}
 use Rattle.cmm_grammar_laws.specs.PartReading.{lvalue, called}

@@ -1,7 +1,7 @@
 use Rattle.std.proofs.Common.{refl}
 use Rattle.cmm_static_semantics.specs.Expressions.{host_spots}
 use Rattle.cmm_static_semantics.specs.Mentions.{expr_names, values_alone}
-use Rattle.cmm_symbols.proofs.Shared.{infix_law, prefix_law, named_law, bracketed_law, memory_law}
+use Rattle.cmm_static_semantics.proofs.Shared.{infix_law, prefix_law, named_law, bracketed_law, memory_law}
 use Rattle.cmm_typing.proofs.FirstFaults.{noted_none, noted_append, noted_turn}
 use Rattle.cmm_typing.proofs.Named.{no_values}
 use Rattle.cmm_typing.proofs.expected.hosts.+expression.Goals as goal

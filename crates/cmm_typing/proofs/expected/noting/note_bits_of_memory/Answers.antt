@@ -7,7 +7,7 @@ use Rattle.cmm_static_semantics.specs.Expressions.{inner_spots}
 use Rattle.cmm_static_semantics.specs.Judging.{Judged, spots}
 use Rattle.cmm_static_semantics.specs.Spots.{first_of}
 use Rattle.cmm_static_semantics.specs.Typing.{wanted, of_memory}
-use Rattle.cmm_symbols.proofs.Shared.{first_of_append}
+use Rattle.cmm_static_semantics.proofs.Shared.{first_of_append}
 use Rattle.cmm_typing.proofs.expected.noting.note_bits_of_memory.Goals as goal
 
 pub returns : goal.returns

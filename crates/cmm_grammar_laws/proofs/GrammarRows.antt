@@ -28,11 +28,11 @@ use Rattle.cmm_ast.specs.declared.statement.Part.TheVariants as parts
 use Rattle.cmm_ast.specs.declared.statement.StmtForm.TheVariants as stmts
 use Rattle.cmm_ast.specs.declared.unit.TopLevel.TheVariants as tops
 use Rattle.cmm_lexer.specs.Spellings.{symbol_number}
-use Rattle.cmm_ast.specs.Taking.{Takes}
-use Rattle.cmm_ast.specs.ExpressionGrammar.{whole}
-use Rattle.cmm_ast.specs.StatementGrammar.{stmt_form, proc}
-use Rattle.cmm_ast.specs.UnitGrammar.{unit}
-use Rattle.cmm_ast.specs.Derivation.{at_start}
+use Rattle.cmm_grammar_laws.specs.Taking.{Takes}
+use Rattle.cmm_grammar_laws.specs.ExpressionGrammar.{whole}
+use Rattle.cmm_grammar_laws.specs.StatementGrammar.{stmt_form, proc}
+use Rattle.cmm_grammar_laws.specs.UnitGrammar.{unit}
+use Rattle.cmm_grammar_laws.specs.Derivation.{at_start}
 
 -- what a row unfolds beside definitions that always unfold
 unfoldable opened : Unit {0}

@@ -37,8 +37,8 @@ use Rattle.cmm_ast.specs.declared.statement.Range.{Range}
 use Rattle.cmm_ast.specs.declared.statement.Span.{Span as SwitchSpan}
 use Rattle.cmm_ast.specs.declared.statement.StmtForm.{StmtForm, Row_of-Arm, end_of-Arm, more_of-Arm}
 use Rattle.cmm_ast.specs.declared.statement.StmtForm.TheVariants as stmts
-use Rattle.cmm_ast.specs.Taking.{Takes, ◌⨾◌, token, is_checked, keyword, symbol, here, nothing, opening, enclosed, outermost, round, square, braces, optional, many, commas, listed, may_list, may_comma}
-use Rattle.cmm_ast.specs.ExpressionGrammar.{ident, text, int, type_name, whole, whole_prim, whole_memory}
+use Rattle.cmm_grammar_laws.specs.Taking.{Takes, ◌⨾◌, token, is_checked, keyword, symbol, here, nothing, opening, enclosed, outermost, round, square, braces, optional, many, commas, listed, may_list, may_comma}
+use Rattle.cmm_grammar_laws.specs.ExpressionGrammar.{ident, text, int, type_name, whole, whole_prim, whole_memory}
 
 -- ---- variables and stackdata
 

@@ -2,8 +2,8 @@
 use Rattle.std.specs.Prelude.{◌≡◌, ℕ, suc, ◌<◌, ◌≤◌, List, [], ◌++◌, length, take, Some, None}
 use Rattle.cmm_lexer.specs.declared.piece.Lexeme.{Lexeme}
 use Rattle.cmm_ast.specs.declared.unit.Unit.{Unit as UnitTree}
-use Rattle.cmm_ast.specs.Taking.{Reading}
-use Rattle.cmm_ast.specs.UnitGrammar.{unit}
+use Rattle.cmm_grammar_laws.specs.Taking.{Reading}
+use Rattle.cmm_grammar_laws.specs.UnitGrammar.{unit}
 
 -- before the first token
 abbrev pub at_start : List Lexeme → Reading

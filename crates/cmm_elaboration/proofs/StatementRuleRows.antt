@@ -3,7 +3,7 @@ use Rattle.std.proofs.Common.{◌≡◌, refl, [], ◌∷◌, None}
 use Rattle.std.specs.Prelude.{codes}
 use Rattle.cmm_rules.specs.declared.rule.Rule.TheVariants.{ArmsOverlap, BadHostCall, BadReturnIndex, CountsDiffer, NoSuchLabel, NotALocalVariable, TooManyValues, Undeclared}
 use Rattle.cmm_static_semantics.specs.Faults.{first_fault}
-use Rattle.cmm_static_semantics.proofs.RowTexts.{opened, unit_of, broken}
+use Rattle.cmm_elaboration.proofs.RuleTexts.{opened, unit_of, broken}
 
 -- 28: at the statement, before 23 at a later token
 row_counts : first_fault (unit_of (codes "export main; main() { bits64 x, y; x, y = 1::bits8; return (0); }") ∷ []) ≡ broken CountsDiffer 0 1 36

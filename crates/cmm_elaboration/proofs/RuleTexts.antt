@@ -13,7 +13,7 @@ use Rattle.cmm_ast.specs.declared.statement.Otherwise.TheBlock as Otherwises
 use Rattle.cmm_ast.specs.declared.unit.Place.{Place}
 use Rattle.cmm_ast.specs.declared.unit.TopLevel.{TopLevel}
 use Rattle.cmm_ast.specs.declared.unit.Unit.{Unit as UnitTree}
-use Rattle.cmm_ast.specs.Derivation.{at_start}
+use Rattle.cmm_grammar_laws.specs.Derivation.{at_start}
 use Rattle.cmm_grammar_laws.specs.Reading.{Answer, Read, Stopped}
 use Rattle.cmm_grammar_laws.specs.ReadingLaws.{point}
 use Rattle.cmm_grammar_laws.specs.StatementReading.{block}

@@ -3,7 +3,7 @@ use Rattle.std.proofs.Common.{◌≡◌, refl, [], ◌∷◌, None}
 use Rattle.std.specs.Prelude.{codes}
 use Rattle.cmm_rules.specs.declared.rule.Rule.TheVariants.{BadHostCall, Limit, NoMain, Undeclared}
 use Rattle.cmm_static_semantics.specs.Faults.{first_fault}
-use Rattle.cmm_static_semantics.proofs.RowTexts.{opened, unit_of, broken}
+use Rattle.cmm_elaboration.proofs.RuleTexts.{opened, unit_of, broken}
 
 -- 40: at the number
 row_alignment_of_data : first_fault (unit_of (codes "section \"data\" { align 16; align 3; } export main; main() { return (0); }") ∷ []) ≡ broken Limit 0 1 34

@@ -26,7 +26,7 @@ use Rattle.cmm_ast.specs.declared.expression.Primary.{Primary}
 use Rattle.cmm_ast.specs.declared.expression.PrimForm.{PrimForm}
 use Rattle.cmm_ast.specs.declared.expression.PrimForm.TheVariants.{Literal, Name as NameOf, Bracketed'}
 use Rattle.cmm_ast.specs.declared.expression.Memory.{Memory, Memory'}
-use Rattle.cmm_ast.specs.Taking.{Takes, ◌⨾◌, token, is_name, is_text, is_operator, is_int, is_char, keyword, symbol, here, nothing, operator, outermost, round, square, optional, may_comma}
+use Rattle.cmm_grammar_laws.specs.Taking.{Takes, ◌⨾◌, token, is_name, is_text, is_operator, is_int, is_char, keyword, symbol, here, nothing, operator, outermost, round, square, optional, may_comma}
 
 -- ---- words and symbols
 

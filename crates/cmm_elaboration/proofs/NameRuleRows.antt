@@ -3,7 +3,7 @@ use Rattle.std.proofs.Common.{◌≡◌, refl, [], ◌∷◌, None}
 use Rattle.std.specs.Prelude.{codes}
 use Rattle.cmm_rules.specs.declared.rule.Rule.TheVariants.{Cycle, DeclaredTwice, ExportedTwice, NoMain, NotAVariable, NotExported, OtherTarget, Undeclared, WidthsDiffer}
 use Rattle.cmm_static_semantics.specs.Faults.{first_fault}
-use Rattle.cmm_static_semantics.proofs.RowTexts.{opened, unit_of, broken}
+use Rattle.cmm_elaboration.proofs.RuleTexts.{opened, unit_of, broken}
 
 -- nothing is broken
 row_accepted : first_fault (unit_of (codes "export main; main() { return (2 + 3); }") ∷ []) ≡ None

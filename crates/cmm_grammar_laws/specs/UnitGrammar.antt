@@ -24,9 +24,9 @@ use Rattle.cmm_ast.specs.declared.unit.Count.{Count}
 use Rattle.cmm_ast.specs.declared.unit.Count.TheVariants as counts
 use Rattle.cmm_ast.specs.declared.unit.Initial.{Initial}
 use Rattle.cmm_ast.specs.declared.unit.Initial.TheVariants as initials
-use Rattle.cmm_ast.specs.Taking.{Takes, ◌⨾◌, keyword, symbol, here, nothing, square, braces, optional, many, listed}
-use Rattle.cmm_ast.specs.ExpressionGrammar.{ident, text, int, type_name, whole, whole_prim}
-use Rattle.cmm_ast.specs.StatementGrammar.{proc}
+use Rattle.cmm_grammar_laws.specs.Taking.{Takes, ◌⨾◌, keyword, symbol, here, nothing, square, braces, optional, many, listed}
+use Rattle.cmm_grammar_laws.specs.ExpressionGrammar.{ident, text, int, type_name, whole, whole_prim}
+use Rattle.cmm_grammar_laws.specs.StatementGrammar.{proc}
 
 -- ---- declarations
 

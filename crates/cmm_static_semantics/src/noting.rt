@@ -3,8 +3,8 @@
 ghost use Rattle.std.specs.Prelude.{◌≡◌};
 ghost use Rattle.cmm_static_semantics.specs.Spots.{first_of, unless};
 
+use crate::spot::Spot;
 use cmm_rules::Rule;
-use cmm_static_semantics::Spot;
 
 /// Notes that a rule is broken at a token, unless a test holds.
 pub fn unless(best: &mut Option<Spot>, test: bool, rule: Rule, token: u32)

@@ -3,7 +3,7 @@ use Rattle.std.proofs.Common.{◌≡◌, refl, [], ◌∷◌, None}
 use Rattle.std.specs.Prelude.{codes}
 use Rattle.cmm_rules.specs.declared.rule.Rule.TheVariants.{ConditionOrBitsWanted, LiteralDoesNotFit, NotAConstant, Undeclared, UnknownOperator, WidthsDiffer}
 use Rattle.cmm_static_semantics.specs.Faults.{first_fault}
-use Rattle.cmm_static_semantics.proofs.RowTexts.{opened, unit_of, broken}
+use Rattle.cmm_elaboration.proofs.RuleTexts.{opened, unit_of, broken}
 
 -- 23: at the later operand
 row_operands : first_fault (unit_of (codes "export main; main() { return (1 + 2::bits8); }") ∷ []) ≡ broken WidthsDiffer 0 1 35
