@@ -3,7 +3,8 @@
 or edits.py --since REF [--minutes N] [--gated]
 
 `rt ci` proves a crate once more before the first of its edits, so it tries those of light crates alone, and of those that keep what the top call promises;
-docs/CONTRIBUTING.md ("Must-fail edits and tests") says which, and edits/NAME/ holds the others. With names, each edit of these crates is tried, over what
+docs/CONTRIBUTING.md ("Must-fail edits and tests") says which, and edits/NAME/ holds the others. One with a line `# above: CRATE` turns a definition that no proof of its own crate
+computes: it is tried by a check of that crate, whose worked rows must refuse it. With names, each edit of these crates is tried, over what
 earlier checks have kept: minutes for a light crate, most of an hour for the parser. Without a name nothing is tried: each edit of edits/ must still apply to
 its crate, and must stand there once.
 
@@ -33,8 +34,15 @@ def edits_of(folder):
     return sorted(it for it in os.listdir(folder) if it.endswith(".edit")) if os.path.isdir(folder) else []
 
 
-def fault_of(edit, crate):
-    """Why an edit cannot be applied to its crate, if it cannot: each of its old texts stands once in its file."""
+def crate_above(edit):
+    """The crate above whose proofs must refuse an edit, if it is not its own crate that must."""
+    with open(edit, encoding="utf-8") as file:
+        found = re.search(r"^# above: (\w+)$", file.read(), re.M)
+    return found and found.group(1)
+
+
+def edited(edit, crate):
+    """The texts of the files that an edit changes, by their paths in its crate, and why it cannot be applied, if it cannot: each of its old texts stands once in its file."""
     texts, path, replaced = {}, "", 0
     with open(edit, encoding="utf-8") as file:
         lines = file.read().split("\n")
@@ -43,18 +51,18 @@ def fault_of(edit, crate):
         if word == "file":
             path = rest.strip()
             if not os.path.isfile(f"{crate}/{path}"):
-                return f"there is no {path}"
+                return {}, f"there is no {path}"
             if path not in texts:
                 with open(f"{crate}/{path}", encoding="utf-8") as file:
                     texts[path] = file.read()
         elif word == "old":
             old = rest
             if texts[path].count(old) != 1:
-                return f"{path} has {old!r} {texts[path].count(old)} times"
+                return {}, f"{path} has {old!r} {texts[path].count(old)} times"
         elif line.startswith("new:"):
             texts[path] = texts[path].replace(old, line[len("new:") :].removeprefix(" "))
             replaced += 1
-    return None if replaced else "it replaces nothing"
+    return texts, None if replaced else "it replaces nothing"
 
 
 def look():
@@ -64,7 +72,7 @@ def look():
         crate = f"{TOP}/crates/{name}"
         for edit in edits_of(f"{TOP}/edits/{name}"):
             twice = os.path.exists(f"{crate}/must-fail/{edit}")
-            why = "must-fail/ has one of this name" if twice else fault_of(f"{TOP}/edits/{name}/{edit}", crate)
+            why = "must-fail/ has one of this name" if twice else edited(f"{TOP}/edits/{name}/{edit}", crate)[1]
             if why:
                 print(f"edits/{name}/{edit}: {why}")
             passed, failed = passed + (not why), failed + bool(why)
@@ -90,7 +98,8 @@ def repository_with(room, names, gated):
             shutil.rmtree(to, ignore_errors=True)
         os.makedirs(to, exist_ok=True)
         for edit in edits_of(f"{TOP}/edits/{name}"):
-            shutil.copy2(f"{TOP}/edits/{name}/{edit}", f"{to}/{edit}")
+            if not crate_above(f"{TOP}/edits/{name}/{edit}"):
+                shutil.copy2(f"{TOP}/edits/{name}/{edit}", f"{to}/{edit}")
     return copy
 
 
@@ -110,10 +119,45 @@ def tried(copy, names, seconds=None):
     return (told, ended) if told or not ended else ([f"{' '.join(names)}: {said}"], ended)
 
 
+def tried_above(copy, name):
+    """What a proof of the crate above says of each edit of this one that is tried there. Those that its own crate must refuse have been tried, and are gone from the copy."""
+    told = []
+    shutil.rmtree(f"{copy}/crates/{name}/must-fail", ignore_errors=True)
+    for edit in edits_of(f"{TOP}/edits/{name}"):
+        above = crate_above(f"{TOP}/edits/{name}/{edit}")
+        if not above:
+            continue
+        texts, _ = edited(f"{TOP}/edits/{name}/{edit}", f"{copy}/crates/{name}")
+        paths = {f"{copy}/crates/{name}/{path}": text for path, text in texts.items()}
+        before = {}
+        for path, text in paths.items():
+            with open(path, encoding="utf-8") as file:
+                before[path] = file.read()
+            write_anew(path, text)
+        ran = subprocess.run(["rt", "ci", above], cwd=copy, stdin=subprocess.DEVNULL, stdout=subprocess.PIPE, stderr=subprocess.STDOUT, text=True, errors="replace")
+        for path, text in before.items():
+            write_anew(path, text)
+        # (its own crate is proved with it, so that what is refused is what the rows say)
+        is_refused = re.search(rf"^rt: {name} (proved$|is kept)", ran.stdout, re.M) and re.search(rf"^rt: {above} NOT PROVED$", ran.stdout, re.M)
+        place = re.search(r"^\S*proofs/\S+: error: .*", ran.stdout, re.M)
+        how = f"refused, as it must be, by {above}: {place.group()}" if is_refused and place else f"not refused by {above}"
+        told.append(f"must-fail {name}/{edit}: {how}")
+    return told
+
+
+def write_anew(path, text):
+    """Writes a file of a copy, which may share its room with the one that it is a copy of."""
+    os.remove(path)
+    with open(path, "w", encoding="utf-8") as file:
+        file.write(text)
+
+
 def attempt(names):
     """How many edits of the crates the prover does not refuse."""
     with tempfile.TemporaryDirectory(prefix="edits-") as room:
-        told, _ = tried(repository_with(room, names, gated=False), names)
+        copy = repository_with(room, names, gated=False)
+        told, _ = tried(copy, names)
+        told += [line for name in names for line in tried_above(copy, name)]
     return count(told)
 
 
@@ -151,6 +195,8 @@ def attempt_since(ref, minutes, gated):
         for name in (it for it in names if every[it]):
             left = until - time.monotonic()
             said, ended = tried(copy, [name], left) if left > 0 else ([], False)
+            if ended:
+                said += tried_above(copy, name)
             told += said
             if not ended:
                 lines = "\n".join(said)
