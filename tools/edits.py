@@ -4,7 +4,7 @@ or edits.py --since REF [--minutes N] [--gated]
 
 `rt ci` proves a crate once more before the first of its edits, so it tries those of light crates alone, and of those that keep what the top call promises;
 docs/CONTRIBUTING.md ("Must-fail edits and tests") says which, and edits/NAME/ holds the others. One with a line `# above: CRATE` turns a definition that no proof of its own crate
-computes: it is tried by a check of that crate, whose worked rows must refuse it. With names, each edit of these crates is tried, over what
+computes: it is tried by a proof of that crate, whose worked rows must refuse it. With names, each edit of these crates is tried, over what
 earlier checks have kept: minutes for a light crate, most of an hour for the parser. Without a name nothing is tried: each edit of edits/ must still apply to
 its crate, and must stand there once.
 
@@ -103,46 +103,52 @@ def repository_with(room, names, gated):
     return copy
 
 
+def said_by(words, copy, seconds=None):
+    """What a call of rt in a copy says, and whether it came to its end within the seconds."""
+    ran = subprocess.Popen(
+        ["rt", *words], cwd=copy, stdin=subprocess.DEVNULL, stdout=subprocess.PIPE, stderr=subprocess.STDOUT, text=True, errors="replace", start_new_session=True
+    )
+    try:
+        return ran.communicate(timeout=seconds)[0], True
+    except subprocess.TimeoutExpired:
+        os.killpg(ran.pid, signal.SIGTERM)
+        return ran.communicate()[0], False
+
+
 def tried(copy, names, seconds=None):
     """What `rt must-fail` says of each edit of these crates in a copy, and whether it came to its end within the seconds."""
-    ran = subprocess.Popen(
-        ["rt", "must-fail", *names], cwd=copy, stdin=subprocess.DEVNULL, stdout=subprocess.PIPE, stderr=subprocess.STDOUT, text=True, errors="replace", start_new_session=True
-    )
-    ended = True
-    try:
-        said, _ = ran.communicate(timeout=seconds)
-    except subprocess.TimeoutExpired:
-        ended = False
-        os.killpg(ran.pid, signal.SIGTERM)
-        said, _ = ran.communicate()
+    said, ended = said_by(["must-fail", *names], copy, seconds)
     told = [it.removeprefix("rt: ") for it in said.split("\n") if re.search(r"must-fail \w+/\S+\.edit: ", it)]
     return (told, ended) if told or not ended else ([f"{' '.join(names)}: {said}"], ended)
 
 
-def tried_above(copy, name):
-    """What a proof of the crate above says of each edit of this one that is tried there. Those that its own crate must refuse have been tried, and are gone from the copy."""
+def tried_above(copy, name, until=None):
+    """What a proof of the crate above says of each edit of this one that is tried there, and whether that came to its end by then. Those that its own crate
+    must refuse have been tried, and are gone from the copy."""
     told = []
     shutil.rmtree(f"{copy}/crates/{name}/must-fail", ignore_errors=True)
     for edit in edits_of(f"{TOP}/edits/{name}"):
         above = crate_above(f"{TOP}/edits/{name}/{edit}")
         if not above:
             continue
+        left = until and until - time.monotonic()
+        if left and left < 0:
+            return told, False
         texts, _ = edited(f"{TOP}/edits/{name}/{edit}", f"{copy}/crates/{name}")
-        paths = {f"{copy}/crates/{name}/{path}": text for path, text in texts.items()}
-        before = {}
-        for path, text in paths.items():
-            with open(path, encoding="utf-8") as file:
-                before[path] = file.read()
-            write_anew(path, text)
-        ran = subprocess.run(["rt", "ci", above], cwd=copy, stdin=subprocess.DEVNULL, stdout=subprocess.PIPE, stderr=subprocess.STDOUT, text=True, errors="replace")
-        for path, text in before.items():
-            write_anew(path, text)
+        for path, text in texts.items():
+            write_anew(f"{copy}/crates/{name}/{path}", text)
+        said, ended = said_by(["ci", above], copy, left)
+        for path in texts:
+            with open(f"{TOP}/crates/{name}/{path}", encoding="utf-8") as file:
+                write_anew(f"{copy}/crates/{name}/{path}", file.read())
+        if not ended:
+            return told, False
         # (its own crate is proved with it, so that what is refused is what the rows say)
-        is_refused = re.search(rf"^rt: {name} (proved$|is kept)", ran.stdout, re.M) and re.search(rf"^rt: {above} NOT PROVED$", ran.stdout, re.M)
-        place = re.search(r"^\S*proofs/\S+: error: .*", ran.stdout, re.M)
+        is_refused = re.search(rf"^rt: {name} (proved$|is kept)", said, re.M) and re.search(rf"^rt: {above} NOT PROVED$", said, re.M)
+        place = re.search(r"^\S*proofs/\S+: error: .*", said, re.M)
         how = f"refused, as it must be, by {above}: {place.group()}" if is_refused and place else f"not refused by {above}"
         told.append(f"must-fail {name}/{edit}: {how}")
-    return told
+    return told, True
 
 
 def write_anew(path, text):
@@ -157,7 +163,7 @@ def attempt(names):
     with tempfile.TemporaryDirectory(prefix="edits-") as room:
         copy = repository_with(room, names, gated=False)
         told, _ = tried(copy, names)
-        told += [line for name in names for line in tried_above(copy, name)]
+        told += [line for name in names for line in tried_above(copy, name)[0]]
     return count(told)
 
 
@@ -179,6 +185,7 @@ def changed_since(ref):
     paths = "\n".join(path for line in ran.stdout.split("\n") if not re.fullmatch(r"R100\t.*\.edit", line) for path in line.split("\t")[1:])
     found = re.findall(r"^(?:crates/(\w+)/(?:src|specs|proofs|must-fail)|edits/(\w+))/", paths, re.M)
     names = {one or other for one, other in found}
+    names |= {it for it in os.listdir(f"{TOP}/edits") if any(crate_above(f"{TOP}/edits/{it}/{edit}") in names for edit in edits_of(f"{TOP}/edits/{it}"))}
     with open(f"{TOP}/docs/CONTRIBUTING.md", encoding="utf-8") as page:
         minutes = dict(re.findall(r"^\| `(\w+)` \| ([\d.]+) \|", page.read(), re.M))
     return sorted((it for it in names if os.path.isdir(f"{TOP}/crates/{it}")), key=lambda it: (float(minutes.get(it, 0)), it))
@@ -196,7 +203,8 @@ def attempt_since(ref, minutes, gated):
             left = until - time.monotonic()
             said, ended = tried(copy, [name], left) if left > 0 else ([], False)
             if ended:
-                said += tried_above(copy, name)
+                more, ended = tried_above(copy, name, until)
+                said += more
             told += said
             if not ended:
                 lines = "\n".join(said)
