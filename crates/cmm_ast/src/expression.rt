@@ -1,6 +1,8 @@
 //! Expressions (C-- Language Specification 2.0, expressions). The token of a node is the number of its first token in
 //! the unit, from 0.
 
+ghost use Rattle.std.specs.Prelude.{◌≡◌};
+
 use crate::token::Int;
 use cmm_items::{Boxed, Items};
 use cmm_words::{Name, Width};
@@ -67,11 +69,29 @@ pub enum Prefix {
 }
 
 /// An expression.
-#[derive(Debug, Drop)]
+#[derive(Debug)]
 #[cycle(expression)]
 pub struct Expr {
     pub token: u32,
     pub form: ExprForm,
+}
+
+impl Expr {
+    /// What it is, without its token.
+    pub fn into_form(self) -> ExprForm
+        ensures { result ≡ self.form }
+    {
+        let Self { token: _, form } = self;
+        form
+    }
+}
+
+/// In one place, so that whoever lets one go has one call to prove.
+impl Drop for Expr {
+    #[cycle(let_go)]
+    fn drop(self) {
+        let Self { token: _, form: _ } = self;
+    }
 }
 
 /// What an expression is.
@@ -125,7 +145,7 @@ pub enum PrimForm {
 }
 
 /// The word in memory at an address.
-#[derive(Debug, Drop)]
+#[derive(Debug)]
 #[cycle(expression)]
 pub struct Memory {
     /// The type of the word, whose first token is the first of all.
@@ -133,4 +153,16 @@ pub struct Memory {
     pub address: Boxed<Expr>,
     /// What the address is said to be a multiple of, in bytes.
     pub aligned: Option<Int>,
+}
+
+/// In one place, so that whoever lets one go has one call to prove.
+impl Drop for Memory {
+    #[cycle(let_go)]
+    fn drop(self) {
+        let Self {
+            width: _,
+            address: _,
+            aligned: _,
+        } = self;
+    }
 }

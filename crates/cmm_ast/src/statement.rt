@@ -7,22 +7,41 @@ use crate::token::{Ident, Text};
 use cmm_items::{Boxed, Items};
 
 /// Statements and declarations in braces.
-#[derive(Debug, Drop)]
+#[derive(Debug)]
 #[cycle(statement)]
 pub struct Block {
     pub parts: Items<Part>,
 }
 
+/// In one place, so that whoever lets one go has one call to prove.
+impl Drop for Block {
+    #[cycle(let_go)]
+    fn drop(self) {
+        let Self { parts: _ } = self;
+    }
+}
+
 /// A part of a block.
-#[derive(Debug, Drop)]
+#[derive(Debug)]
 #[cycle(statement)]
 pub enum Part {
     Local(Local),
     Stmt(Stmt),
 }
 
+/// In one place, so that whoever lets one go has one call to prove.
+impl Drop for Part {
+    #[cycle(let_go)]
+    fn drop(self) {
+        match self {
+            Self::Local(_) => {}
+            Self::Stmt(_) => {}
+        }
+    }
+}
+
 /// A statement.
-#[derive(Debug, Drop)]
+#[derive(Debug)]
 #[cycle(statement)]
 pub struct Stmt {
     /// The number of its first token.
@@ -30,6 +49,18 @@ pub struct Stmt {
     /// The number of the token after its last.
     pub past: u32,
     pub form: StmtForm,
+}
+
+/// In one place, so that whoever lets one go has one call to prove.
+impl Drop for Stmt {
+    #[cycle(let_go)]
+    fn drop(self) {
+        let Self {
+            token: _,
+            past: _,
+            form: _,
+        } = self;
+    }
 }
 
 /// What a statement is.
@@ -99,7 +130,7 @@ pub enum StmtForm {
 }
 
 /// What stands after the block of an `if`.
-#[derive(Debug, Drop)]
+#[derive(Debug)]
 #[cycle(statement)]
 pub enum Otherwise {
     Nothing,
@@ -108,13 +139,37 @@ pub enum Otherwise {
     ElseIf(Boxed<Stmt>),
 }
 
+/// In one place, so that whoever lets one go has one call to prove.
+impl Drop for Otherwise {
+    #[cycle(let_go)]
+    fn drop(self) {
+        match self {
+            Self::Nothing => {}
+            Self::Else(_) => {}
+            Self::ElseIf(_) => {}
+        }
+    }
+}
+
 /// An arm of a switch.
-#[derive(Debug, Drop)]
+#[derive(Debug)]
 #[cycle(statement)]
 pub struct Arm {
     pub token: u32,
     pub case: Case,
     pub body: Block,
+}
+
+/// In one place, so that whoever lets one go has one call to prove.
+impl Drop for Arm {
+    #[cycle(let_go)]
+    fn drop(self) {
+        let Self {
+            token: _,
+            case: _,
+            body: _,
+        } = self;
+    }
 }
 
 /// What an arm is for.

@@ -1,15 +1,34 @@
 //! The parts of a syntax tree that are one token each.
 
+ghost use Rattle.std.specs.Prelude.{◌≡◌};
+
 use cmm_items::Items;
 use cmm_words::{Name, Quoted};
 use std::fmt;
 
 /// A name where it stands.
-#[derive(Debug, Drop)]
+#[derive(Debug)]
 pub struct Ident {
     pub name: Name,
     /// The number of its token in the unit, from 0.
     pub token: u32,
+}
+
+impl Ident {
+    /// Its name, without its token.
+    pub fn into_name(self) -> Name
+        ensures { result ≡ self.name }
+    {
+        let Self { name, token: _ } = self;
+        name
+    }
+}
+
+/// In one place, so that whoever lets one go has one call to prove.
+impl Drop for Ident {
+    fn drop(self) {
+        let Self { name: _, token: _ } = self;
+    }
 }
 
 /// A text where it stands.

@@ -61,7 +61,7 @@ impl Drop for Section {
 }
 
 /// A part of a section.
-#[derive(Debug, Drop)]
+#[derive(Debug)]
 pub enum Item {
     Decl(Decl),
     Proc(Proc),
@@ -73,6 +73,23 @@ pub enum Item {
         value: Expr,
         items: Items<Item>,
     },
+}
+
+/// In one place, so that whoever lets one go has one call to prove.
+impl Drop for Item {
+    fn drop(self) {
+        match self {
+            Self::Decl(_) => {}
+            Self::Proc(_) => {}
+            Self::Datum(_) => {}
+            Self::Span {
+                token: _,
+                key: _,
+                value: _,
+                items: _,
+            } => {}
+        }
+    }
 }
 
 /// A piece of data.

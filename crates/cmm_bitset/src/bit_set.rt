@@ -11,10 +11,16 @@ use std::fmt;
 use std::marker::Model;
 
 /// A set of numbers below a size that is given when it is made.
-#[derive(Drop)]
 pub struct BitSet {
     words: Vec<u64>,
     size: u32,
+}
+
+/// In one place, so that whoever lets one go has one call to prove.
+impl Drop for BitSet {
+    fn drop(self) {
+        let Self { words: _, size: _ } = self;
+    }
 }
 
 impl Model for BitSet {

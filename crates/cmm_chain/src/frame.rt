@@ -14,7 +14,6 @@ pub enum Location {
 }
 
 /// How the frames of a procedure are laid out. Offsets and sizes are in bytes, from the frame's address.
-#[derive(Drop)]
 pub struct Frame {
     pub size: u32,
     /// Where the return address is saved.
@@ -25,4 +24,17 @@ pub struct Frame {
     pub pairs: Items<u32>,
     /// The offset of each stackdata label.
     pub stack: Items<u32>,
+}
+
+/// In one place, so that whoever lets one go has one call to prove.
+impl Drop for Frame {
+    fn drop(self) {
+        let Self {
+            size: _,
+            return_at: _,
+            saved: _,
+            pairs: _,
+            stack: _,
+        } = self;
+    }
 }

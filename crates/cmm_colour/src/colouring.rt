@@ -12,9 +12,15 @@ use std::alloc::{AllocError, Global};
 use std::marker::Model;
 
 /// The colour of each node, if it has one.
-#[derive(Drop)]
 pub struct Colours {
     colours: Vec<Option<u32>>,
+}
+
+/// In one place, so that whoever lets one go has one call to prove.
+impl Drop for Colours {
+    fn drop(self) {
+        let Self { colours: _ } = self;
+    }
 }
 
 impl Model for Colours {

@@ -3,7 +3,6 @@
 use cmm_items::Items;
 
 /// What is loaded into memory, and where a run begins.
-#[derive(Drop)]
 pub struct Segments {
     /// The bytes of the code, from `CODE_BASE` on.
     pub code: Items<u8>,
@@ -11,4 +10,15 @@ pub struct Segments {
     pub initial: Items<u8>,
     /// The address at which a run begins.
     pub entry: u64,
+}
+
+/// In one place, so that whoever lets one go has one call to prove.
+impl Drop for Segments {
+    fn drop(self) {
+        let Self {
+            code: _,
+            initial: _,
+            entry: _,
+        } = self;
+    }
 }

@@ -8,7 +8,6 @@ use cmm_items::Items;
 use rv_asm::Label;
 
 /// What the code of a procedure's nodes is made over.
-#[derive(Drop)]
 pub struct Context {
     /// How many variables the procedure has. Its temporaries are numbered after them.
     pub variables: u32,
@@ -25,8 +24,22 @@ pub struct Context {
     pub sites: Items<Label>,
 }
 
+/// In one place, so that whoever lets one go has one call to prove.
+impl Drop for Context {
+    fn drop(self) {
+        let Self {
+            variables: _,
+            places: _,
+            zeroed: _,
+            frame: _,
+            landings: _,
+            nodes: _,
+            sites: _,
+        } = self;
+    }
+}
+
 /// The labels of a unit, for what its nodes name outside of their procedure: of each number of the program, where the unit names it or has it.
-#[derive(Drop)]
 pub struct Targets {
     /// The code of each procedure.
     pub procedures: Items<Option<Label>>,
@@ -38,6 +51,19 @@ pub struct Targets {
     pub limit: Label,
     /// Where the client is called.
     pub client: Label,
+}
+
+/// In one place, so that whoever lets one go has one call to prove.
+impl Drop for Targets {
+    fn drop(self) {
+        let Self {
+            procedures: _,
+            data_labels: _,
+            registers: _,
+            limit: _,
+            client: _,
+        } = self;
+    }
 }
 
 /// The label of what is named, by its number in the program.

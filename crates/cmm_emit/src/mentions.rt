@@ -12,7 +12,6 @@ use cmm_words::Constant;
 use std::alloc::{AllocError, Global};
 
 /// What is named of a program, each a set of numbers.
-#[derive(Drop)]
 pub struct Mentions {
     /// Global registers.
     pub registers: BitSet,
@@ -20,6 +19,17 @@ pub struct Mentions {
     pub labels: BitSet,
     /// Procedures.
     pub procedures: BitSet,
+}
+
+/// In one place, so that whoever lets one go has one call to prove.
+impl Drop for Mentions {
+    fn drop(self) {
+        let Self {
+            registers: _,
+            labels: _,
+            procedures: _,
+        } = self;
+    }
 }
 
 /// Makes a number a member of a set that has room for it.

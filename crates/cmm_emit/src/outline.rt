@@ -19,7 +19,6 @@ use rv_asm::{Asm, Label};
 use std::alloc::{AllocError, Global};
 
 /// The labels and contexts that a unit's code needs.
-#[derive(Drop)]
 pub struct Outline {
     /// The number of its first procedure in the program. The others follow.
     pub first: usize,
@@ -30,6 +29,19 @@ pub struct Outline {
     /// Where the code of each of them begins.
     pub entries: Items<Label>,
     pub targets: Targets,
+}
+
+/// In one place, so that whoever lets one go has one call to prove.
+impl Drop for Outline {
+    fn drop(self) {
+        let Self {
+            first: _,
+            references: _,
+            contexts: _,
+            entries: _,
+            targets: _,
+        } = self;
+    }
 }
 
 /// The labels of procedures: those of a unit, from one on, are in its code. An error is want of memory.

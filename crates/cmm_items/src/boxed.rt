@@ -7,9 +7,15 @@ use std::fmt;
 use std::marker::Model;
 
 /// A `Box` that contracts see as its value.
-#[derive(Drop)]
 pub struct Boxed<T> {
     inner: Box<T>,
+}
+
+/// In one place, so that whoever lets one go has one call to prove.
+impl<T: Drop> Drop for Boxed<T> {
+    fn drop(self) {
+        let Self { inner: _ } = self;
+    }
 }
 
 impl<T> Model for Boxed<T> {

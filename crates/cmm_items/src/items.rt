@@ -16,9 +16,15 @@ use std::marker::Model;
 use std::slice::Iter;
 
 /// A `Vec` that contracts see as the list of its elements.
-#[derive(Drop)]
 pub struct Items<T> {
     items: Vec<T>,
+}
+
+/// In one place, so that whoever lets one go has one call to prove.
+impl<T: Drop> Drop for Items<T> {
+    fn drop(self) {
+        let Self { items: _ } = self;
+    }
 }
 
 impl<T> Model for Items<T> {

@@ -42,7 +42,6 @@ impl From<AllocError> for LexFault {
 }
 
 /// The tokens of a unit, in order. Two of them have one number exactly where the bytes that it stands for are equal.
-#[derive(Drop)]
 pub struct Tokens {
     pub list: Items<Token>,
     /// The line of the byte after the unit's last.
@@ -50,6 +49,18 @@ pub struct Tokens {
     /// The column of the byte after the unit's last.
     pub column: u32,
     spellings: IndexSet<Items<u8>>,
+}
+
+/// In one place, so that whoever lets one go has one call to prove.
+impl Drop for Tokens {
+    fn drop(self) {
+        let Self {
+            list: _,
+            line: _,
+            column: _,
+            spellings: _,
+        } = self;
+    }
 }
 
 impl Tokens {

@@ -31,13 +31,23 @@ pub(crate) struct Exported<'a> {
 }
 
 /// What is gathered of units. Registers have no numbers yet, since these go by the names of all units: `numbered` gives them.
-#[derive(Drop)]
 pub struct Gathered<'a> {
     exports: Items<Exported<'a>>,
     /// The first export under each link name.
     links: Index<'a, Option<Entry<'a>>>,
     /// The names of registers, as they came.
     registers: IndexSet<&'a [u8]>,
+}
+
+/// In one place, so that whoever lets one go has one call to prove.
+impl Drop for Gathered<'_> {
+    fn drop(self) {
+        let Self {
+            exports: _,
+            links: _,
+            registers: _,
+        } = self;
+    }
 }
 
 impl<'a> Model for Gathered<'a> {

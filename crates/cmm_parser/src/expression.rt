@@ -163,7 +163,7 @@ impl Parser<'_> {
             let memory = self.memory(named_type(name))?;
             return Ok(ExprForm::Memory(memory));
         }
-        Ok(ExprForm::Prim(PrimForm::Name(name.name)))
+        Ok(ExprForm::Prim(PrimForm::Name(name.into_name())))
     }
 
     /// The operator that is next, and its operand.

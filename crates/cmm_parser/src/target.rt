@@ -214,7 +214,7 @@ impl Parser<'_> {
         let value = self.whole()?;
         if self.is_symbol(Symbol::Open) {
             let token = value.token;
-            let form = callee_of_form(token, value.form);
+            let form = callee_of_form(token, value.into_form());
             self.called(names, token, form)
         } else {
             let values = self.listed_from(value)?;

@@ -19,7 +19,7 @@ pub(crate) fn named_type(name: Ident) -> TypeName
 {
     TypeName {
         token: name.token,
-        form: TypeForm::Named(name.name),
+        form: TypeForm::Named(name.into_name()),
     }
 }
 

@@ -4,7 +4,7 @@ use cmm_items::Boxed;
 use cmm_words::{Cmp, Constant, Op1, Op2, Width};
 
 /// What has a word as its value. It has no effect.
-#[derive(Debug, Drop)]
+#[derive(Debug)]
 pub enum Expression {
     /// A number, or the address of a procedure or of a data label with a number of bytes added.
     Known(Constant),
@@ -34,8 +34,31 @@ pub enum Expression {
     LowBits(Width, Width, Boxed<Expression>),
 }
 
+/// In one place, so that whoever lets one go has one call to prove.
+impl Drop for Expression {
+    fn drop(self) {
+        match self {
+            Self::Known(_) => {}
+            Self::Variable(_, _) => {}
+            Self::Register(_, _) => {}
+            Self::Stackdata(_) => {}
+            Self::Continuation(_) => {}
+            Self::Load {
+                width: _,
+                aligned: _,
+                address: _,
+            } => {}
+            Self::Unary(_, _, _) => {}
+            Self::Binary(_, _, _, _) => {}
+            Self::SignExtend(_, _, _) => {}
+            Self::ZeroExtend(_, _, _) => {}
+            Self::LowBits(_, _, _) => {}
+        }
+    }
+}
+
 /// What holds or does not. No variable holds one.
-#[derive(Debug, Drop)]
+#[derive(Debug)]
 pub enum Condition {
     /// A comparison of two words of this width.
     Compare(Cmp, Width, Boxed<Expression>, Boxed<Expression>),
@@ -44,4 +67,16 @@ pub enum Condition {
     Both(Boxed<Condition>, Boxed<Condition>),
     /// One of them holds, or both. Both are evaluated.
     Either(Boxed<Condition>, Boxed<Condition>),
+}
+
+/// In one place, so that whoever lets one go has one call to prove.
+impl Drop for Condition {
+    fn drop(self) {
+        match self {
+            Self::Compare(_, _, _, _) => {}
+            Self::Not(_) => {}
+            Self::Both(_, _) => {}
+            Self::Either(_, _) => {}
+        }
+    }
 }

@@ -13,7 +13,6 @@ use crate::program::Program;
 use cmm_items::Items;
 
 /// Where one procedure's code and the parts of its frames lie. Offsets are in bytes, from the frame's address.
-#[derive(Drop)]
 pub struct PlaceRow {
     /// The address of the code.
     pub code: u64,
@@ -25,10 +24,28 @@ pub struct PlaceRow {
     pub stack: Items<u32>,
 }
 
+/// In one place, so that whoever lets one go has one call to prove.
+impl Drop for PlaceRow {
+    fn drop(self) {
+        let Self {
+            code: _,
+            frame: _,
+            pairs: _,
+            stack: _,
+        } = self;
+    }
+}
+
 /// A row for each procedure of a program, in their order.
-#[derive(Drop)]
 pub struct Placement {
     pub rows: Items<PlaceRow>,
+}
+
+/// In one place, so that whoever lets one go has one call to prove.
+impl Drop for Placement {
+    fn drop(self) {
+        let Self { rows: _ } = self;
+    }
 }
 
 /// The least multiple of an alignment that is not below a place.

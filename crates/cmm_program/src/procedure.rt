@@ -43,10 +43,16 @@ pub struct StackItem {
 }
 
 /// A continuation of a procedure.
-#[derive(Drop)]
 pub struct Cont {
     /// The variables that take the values passed to it.
     pub params: Items<u32>,
+}
+
+/// In one place, so that whoever lets one go has one call to prove.
+impl Drop for Cont {
+    fn drop(self) {
+        let Self { params: _ } = self;
+    }
 }
 
 /// A call site: a call, a yield or a checked operator.

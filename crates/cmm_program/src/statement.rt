@@ -7,7 +7,6 @@ use cmm_items::Items;
 use cmm_words::{Op2, Width};
 
 /// What an assignment assigns to.
-#[derive(Drop)]
 pub enum Lvalue {
     Target(Target),
     /// The word in memory at an address, which is to be a multiple of `aligned` bytes.
@@ -18,6 +17,20 @@ pub enum Lvalue {
     },
 }
 
+/// In one place, so that whoever lets one go has one call to prove.
+impl Drop for Lvalue {
+    fn drop(self) {
+        match self {
+            Self::Target(_) => {}
+            Self::Memory {
+                width: _,
+                aligned: _,
+                address: _,
+            } => {}
+        }
+    }
+}
+
 /// The values from `from` to `to`, both included.
 #[derive(Clone, Copy)]
 pub struct Range {
@@ -26,7 +39,6 @@ pub struct Range {
 }
 
 /// Which values an arm of a switch is for.
-#[derive(Drop)]
 pub enum Case {
     /// Those in one of these ranges.
     In(Items<Range>),
@@ -34,21 +46,45 @@ pub enum Case {
     Default,
 }
 
+/// In one place, so that whoever lets one go has one call to prove.
+impl Drop for Case {
+    fn drop(self) {
+        match self {
+            Self::In(_) => {}
+            Self::Default => {}
+        }
+    }
+}
+
 /// An arm of a switch.
-#[derive(Drop)]
 #[cycle(statement)]
 pub struct Arm {
     pub case: Case,
     pub body: Items<Statement>,
 }
 
+/// In one place, so that whoever lets one go has one call to prove.
+impl Drop for Arm {
+    #[cycle(let_go)]
+    fn drop(self) {
+        let Self { case: _, body: _ } = self;
+    }
+}
+
 /// A statement.
-#[derive(Drop)]
 #[cycle(statement)]
 pub struct Statement {
     /// The count of its own tokens, those of the blocks inside it left out.
     pub tokens: u32,
     pub form: Form,
+}
+
+/// In one place, so that whoever lets one go has one call to prove.
+impl Drop for Statement {
+    #[cycle(let_go)]
+    fn drop(self) {
+        let Self { tokens: _, form: _ } = self;
+    }
 }
 
 /// What a statement is.

@@ -13,12 +13,23 @@ use rv_table::{Instr, TrapKind};
 use std::marker::Model;
 
 /// An image with its code decoded, a script, and the size of the stack in bytes.
-#[derive(Drop)]
 pub struct Loaded {
     image: Image,
     script: Script,
     stack: u64,
     table: Decoded,
+}
+
+/// In one place, so that whoever lets one go has one call to prove.
+impl Drop for Loaded {
+    fn drop(self) {
+        let Self {
+            image: _,
+            script: _,
+            stack: _,
+            table: _,
+        } = self;
+    }
 }
 
 impl Model for Loaded {
@@ -74,7 +85,12 @@ impl Loaded {
     pub fn into_image(self) -> Image
         ensures { result ≡ self.image }
     {
-        let Loaded { image, .. } = self;
+        let Self {
+            image,
+            script: _,
+            stack: _,
+            table: _,
+        } = self;
         image
     }
 }

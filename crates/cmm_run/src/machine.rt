@@ -13,11 +13,21 @@ use rv_table::Regs;
 
 /// What a run changes: the program's registers, pc and memory, the output that it has put and not written yet, and whether its input has ended. An input that has ended
 /// stays so: a terminal may give bytes again, which no list of bytes that a program reads in a row would explain.
-#[derive(Drop)]
 pub struct Machine {
     pub program: Stopped,
     pub waiting: Waiting,
     pub input_ended: bool,
+}
+
+/// In one place, so that whoever lets one go has one call to prove.
+impl Drop for Machine {
+    fn drop(self) {
+        let Self {
+            program: _,
+            waiting: _,
+            input_ended: _,
+        } = self;
+    }
 }
 
 /// The registers where a run begins at an address, in this memory.

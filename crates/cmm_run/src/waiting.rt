@@ -14,9 +14,15 @@ pub const ROOM: usize = 4096;
 
 /// Bytes that a program has put and that are not written yet. They are written together, before anything else is read or written and
 /// before the run ends, so that a reader sees the same order. Contracts see these bytes.
-#[derive(Drop)]
 pub struct Waiting {
     bytes: Vec<u8>,
+}
+
+/// In one place, so that whoever lets one go has one call to prove.
+impl Drop for Waiting {
+    fn drop(self) {
+        let Self { bytes: _ } = self;
+    }
 }
 
 impl Model for Waiting {

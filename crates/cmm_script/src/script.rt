@@ -14,7 +14,6 @@ pub enum Value {
 }
 
 /// What a client does at a yield. Its cursor stands at an activation, at first the youngest.
-#[derive(Drop)]
 pub enum Command {
     /// Writes the walk.
     List,
@@ -42,14 +41,44 @@ pub enum Command {
     Stop,
 }
 
+/// In one place, so that whoever lets one go has one call to prove.
+impl Drop for Command {
+    fn drop(self) {
+        match self {
+            Self::List => {}
+            Self::Youngest => {}
+            Self::Next => {}
+            Self::Desc(_) => {}
+            Self::Seek(_, _) => {}
+            Self::Var(_) => {}
+            Self::Set(_, _) => {}
+            Self::Poke(_, _, _) => {}
+            Self::Return(_, _) => {}
+            Self::Unwind(_, _) => {}
+            Self::Cut(_, _) => {}
+            Self::Stop => {}
+        }
+    }
+}
+
 /// What is done at a yield.
-#[derive(Drop)]
 pub struct Block {
     /// The first value of the yields that the block answers, or none: it answers those that no other block does.
     pub code: Option<u64>,
     pub commands: Items<Command>,
     /// The line of each command in the script's text, counted from 1.
     pub lines: Items<u32>,
+}
+
+/// In one place, so that whoever lets one go has one call to prove.
+impl Drop for Block {
+    fn drop(self) {
+        let Self {
+            code: _,
+            commands: _,
+            lines: _,
+        } = self;
+    }
 }
 
 /// A client script. No two of its blocks have the same code.

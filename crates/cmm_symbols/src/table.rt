@@ -23,11 +23,20 @@ pub struct Named<'a, E> {
 }
 
 /// Declarations in textual order, of which the first of each name is found, by its number.
-#[derive(Drop)]
 pub struct Table<'a, E> {
     pub declared: Items<Named<'a, E>>,
     pub index: Index<'a, usize>,
     ghost tied: { (x : List ℕ) → indexed index x ≡ found x (numbering (map named declared)) },
+}
+
+/// In one place, so that whoever lets one go has one call to prove.
+impl<E: Drop> Drop for Table<'_, E> {
+    fn drop(self) {
+        let Self {
+            declared: _,
+            index: _,
+        } = self;
+    }
 }
 
 impl<'a, E: Copy + Drop> Table<'a, E> {

@@ -16,10 +16,19 @@ use cmm_symbols::{Entry, Table};
 use std::alloc::{AllocError, Global};
 
 /// Which declarations of a unit name which.
-#[derive(Drop)]
 pub struct Dependencies {
     pub(crate) graph: Items<Items<usize>>,
     pub(crate) cyclic: Vec<bool>,
+}
+
+/// In one place, so that whoever lets one go has one call to prove.
+impl Drop for Dependencies {
+    fn drop(self) {
+        let Self {
+            graph: _,
+            cyclic: _,
+        } = self;
+    }
 }
 
 impl Dependencies {

@@ -11,9 +11,16 @@ use std::fmt;
 use std::marker::Model;
 
 /// A name: bytes, of which contracts see the list. Names are ordered as their bytes are.
-#[derive(Drop, Eq, PartialOrd, Ord, Hash)]
+#[derive(Eq, PartialOrd, Ord, Hash)]
 pub struct Name {
     bytes: Items<u8>,
+}
+
+/// In one place, so that whoever lets one go has one call to prove.
+impl Drop for Name {
+    fn drop(self) {
+        let Self { bytes: _ } = self;
+    }
 }
 
 impl Model for Name {

@@ -18,13 +18,24 @@ use std::alloc::{AllocError, Global};
 use std::marker::Model;
 
 /// Code that is assembled, part by part. Contracts see it as the parts so far and the meanings of the labels.
-#[derive(Drop)]
 pub struct Asm {
     alloc: Global,
     /// The parts, and behind them room for the place of each label that has none yet.
     room: Vec<Part>,
     used: usize,
     labels: Vec<Meaning>,
+}
+
+/// In one place, so that whoever lets one go has one call to prove.
+impl Drop for Asm {
+    fn drop(self) {
+        let Self {
+            alloc: _,
+            room: _,
+            used: _,
+            labels: _,
+        } = self;
+    }
 }
 
 impl Model for Asm {
