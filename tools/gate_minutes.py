@@ -15,11 +15,16 @@ import sys
 import time
 
 TICKS = os.sysconf("SC_CLK_TCK")
-PAGE = os.path.join(os.path.dirname(os.path.dirname(os.path.abspath(__file__))), "docs", "CONTRIBUTING.md")
+TOP = os.path.dirname(os.path.dirname(os.path.abspath(__file__)))
+PAGE = os.path.join(TOP, "docs", "CONTRIBUTING.md")
+CRATES = os.path.join(TOP, "crates.txt")
 MARKS = ("<!-- minutes of the gate -->\n", "<!-- end of the minutes -->\n")
 SORTS = ("proof", "tests", "edits")
 LEAST = 0.5
-BUDGET = "The budget: at most 180 processor minutes in all now, 200 at the end."
+# The most processor minutes that the whole gate may take, and by how many the longest chain of crates may grow.
+WHOLE = 170
+CHAIN_ROOM = 2
+PROGRAM = "cmm"
 
 
 def processes():
@@ -79,8 +84,30 @@ def lines_of(table):
         if any(shown):
             lines.append(f"| `{crate}` | {' | '.join(shown)} |")
     sums = [sum(row[sort] for row in table.values()) for sort in SORTS]
-    lines += ["", f"In all {sum(sums):.0f}: proofs {sums[0]:.0f}, tests {sums[1]:.0f}, edits {sums[2]:.0f}. {BUDGET}"]
-    return lines
+    lines += ["", f"In all {sum(sums):.0f}: proofs {sums[0]:.0f}, tests {sums[1]:.0f}, edits {sums[2]:.0f}.", ""]
+    return lines + budget(table, sum(sums))
+
+
+def longest_chain(table):
+    """The crates that wait for each other longest, by the minutes of their proofs, from the first to the program."""
+    best = {}
+    with open(CRATES, encoding="utf-8") as file:
+        for line in file:
+            crate, colon, below = line.split("#")[0].strip().partition(":")
+            if colon:
+                minutes, chain = max((best.get(it, (0, [])) for it in below.split()), default=(0, []))
+                own = table[crate]["proof"] if crate in table else 0
+                best[crate] = minutes + own, [*chain, crate]
+    return best.get(PROGRAM, (0, []))
+
+
+def budget(table, whole):
+    """What may still be spent, and where."""
+    minutes, chain = longest_chain(table)
+    return [
+        f"The budget: at most {WHOLE} processor minutes in all, so {WHOLE - whole:.0f} are left for what is new. A crate that stands may grow by a tenth of its minutes. Those of the longest chain of crates that wait for each other,",
+        f"{', '.join(f'`{crate}`' for crate in chain)}, which take {minutes:.0f}, may grow by {CHAIN_ROOM} minutes together: the first call has 30.",
+    ]
 
 
 def standing(text):
@@ -100,7 +127,7 @@ def main(words):
     with open(PAGE, encoding="utf-8") as page:
         text = page.read()
     if words == ["--sum"]:
-        print(lines_of(standing(text))[-1])
+        print("\n".join(lines_of(standing(text))[-4:]))
         return 0
     table = {}
     if words == ["--first"]:
