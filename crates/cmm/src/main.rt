@@ -2,14 +2,14 @@
 #![tactic(auto)]
 
 ghost use Rattle.std.specs.Prelude.{◌≡◌, ◌<◌, ◌≤◌, ◌^◌, length, IfOk, OnErr};
-ghost use Rattle.cmm_top.specs.declared.status.Status.TheVariants.{Usage, Memory};
+ghost use Rattle.cmm_work.specs.declared.status.Status.TheVariants.{Usage, Memory};
 ghost use Rattle.cmm_outside.specs.Reads.{AreReadInOrder, Made};
 ghost use Rattle.cmm_run.specs.Outside.{outside_of};
 ghost use Rattle.cmm_top.specs.Answers.{EndsWith};
-ghost use Rattle.cmm_top.specs.Call.{standing};
+ghost use Rattle.cmm_work.specs.Standing.{standing};
 ghost use Rattle.cmm_top.specs.Reads.{read_by};
 ghost use Rattle.cmm_top.specs.Words.{texts};
-ghost use Rattle.cmm_top.specs.Status.{number_of};
+ghost use Rattle.cmm_work.specs.Status.{number_of};
 
 use cmm_outside::{Files, Sink, Source, StdFiles, StdSink, StdSource};
 use cmm_top::{Status, cmm_main};

@@ -29,7 +29,7 @@ use Rattle.cmm_program.specs.Memory.{IsByte}
 use Rattle.cmm_machine_laws.specs.Observed.{Call, machine_of}
 use Rattle.cmm_data.specs.Laws.{DataReachesItsEnd, InRangeCanBeLaidOut}
 use Rattle.cmm_image_machine.specs.Laws.{ImagesKeepFrames}
-use Rattle.cmm_image_machine.specs.Machine.{Launch, first_run, map_of}
+use Rattle.cmm_image_machine.specs.Machine.{Launch, first_run, map_of, IsStackSize, launch_of}
 use Rattle.cmm_image_machine.specs.Observed.{image_machine}
 use Rattle.cmm_graph.specs.declared.graph.Graph.{Graph}
 use Rattle.cmm_hoisted.specs.Flow.{IsHoistedFlow}
@@ -57,7 +57,7 @@ use Rattle.cmm_unit_code.specs.Texts.{ascend_above}
 use Rattle.cmm_link.specs.Laws.{ImagesHaveRows}
 use Rattle.cmm_image_machine.specs.Tables.{place_row_of, placement_of}
 use Rattle.cmm_emit.specs.Texts.{RunsProgram}
-use Rattle.cmm_compile.specs.Agreement.{IsStackSize, TellsOf, launch_of, setting_of}
+use Rattle.cmm_compile.specs.Agreement.{TellsOf, setting_of}
 use Rattle.cmm_compile.specs.inside.Laws.{ImagesAgreeWithUnits, IsMade}
 
 -- ---- addresses of procedures

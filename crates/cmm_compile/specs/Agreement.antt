@@ -1,8 +1,7 @@
 -- What it is that an image agrees with units: it does what the C-- machine does on the program that they mean, and nothing else, unless the machine commits an unchecked
 -- error first (C-- Language Specification 2.0; Ramsey and Peyton Jones, PLDI 2000, the abstract machine; the RISC-V Unprivileged ISA).
-use Rattle.std.specs.Prelude.{◌≡◌, ℕ, ◌+◌, ◌*◌, ◌%◌, ◌≤◌, ◌++◌, List, false, length, map, slice_get, sum_by, Some}
+use Rattle.std.specs.Prelude.{◌≡◌, ℕ, ◌+◌, ◌*◌, ◌≤◌, ◌++◌, List, false, length, map, slice_get, sum_by, Some}
 use Rattle.std.specs.List.{All}
-use Rattle.rv_table.specs.declared.memory_map.TheConstants.{STACK_SIZE_LIMIT}
 use Rattle.rv_table.specs.Machine.{stack_base}
 use Rattle.cmm_simulation.specs.Machine.{after}
 use Rattle.cmm_simulation.specs.Seen.{Client, IsPrefix}
@@ -23,7 +22,7 @@ use Rattle.cmm_machine_laws.specs.Observed.{Call, machine_of}
 use Rattle.cmm_image.specs.declared.parts.ImageParts.{ImageParts}
 use Rattle.cmm_image.specs.ImageFormat.{procedure_at}
 use Rattle.cmm_image_machine.specs.Changes.{label_named}
-use Rattle.cmm_image_machine.specs.Machine.{Launch, first_run}
+use Rattle.cmm_image_machine.specs.Machine.{IsStackSize, first_run, launch_of}
 use Rattle.cmm_image_machine.specs.Observed.{image_machine}
 use Rattle.cmm_simulation.specs.OnceBegun.{AgreesOnceBegun}
 use Rattle.cmm_image_machine.specs.Tables.{IsLabelRow, global_row, placement_of, variable_row}
@@ -32,14 +31,6 @@ use Rattle.cmm_front.specs.Programs.{IsProgramOf}
 -- the machine runs with the placement that the image shows, and a stack of n bytes
 abbrev pub setting_of : Program → ImageParts → Script → ℕ → Setting
 setting_of p i script stack = record { program = p; placement = placement_of i; stack_base = stack_base; stack_size = stack; script = script }
-
--- and so does the image
-abbrev pub launch_of : ImageParts → Script → ℕ → Launch
-launch_of i script stack = record { image = i; script = script; stack_size = stack }
-
--- how large stacks are
-abbrev pub IsStackSize : ℕ → Type 0
-IsStackSize n = (n % 16 ≡ 0) × (n ≤ STACK_SIZE_LIMIT)
 
 -- For every script, stack and input the image does in K * (m + 1) instructions what the machine does in m steps, and the machine does in K * (n + 1) steps what the image does in
 -- n instructions, where K is the step factor of the program: what is written, what is asked for and how it ends. What a yield asks for are its values and the walk that the

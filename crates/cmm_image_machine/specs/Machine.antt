@@ -1,7 +1,7 @@
 -- What an image does: the state after n instructions.
-use Rattle.std.specs.Prelude.{ℕ, zero, suc, ◌+◌, ◌-◌, nat_le, true, false, List, [], ◌∷◌, ◌++◌, length, slice_index_or, Some, None}
+use Rattle.std.specs.Prelude.{◌≡◌, ℕ, zero, suc, ◌+◌, ◌-◌, ◌%◌, ◌≤◌, nat_le, true, false, List, [], ◌∷◌, ◌++◌, length, slice_index_or, Some, None}
 use Rattle.cmm_abi.specs.declared.registers.TheConstants.{REQUEST_VALUE}
-use Rattle.rv_table.specs.declared.memory_map.TheConstants.{BELOW_STACK}
+use Rattle.rv_table.specs.declared.memory_map.TheConstants.{BELOW_STACK, STACK_SIZE_LIMIT}
 use Rattle.rv_table.specs.declared.request.Request.{Request}
 use Rattle.rv_table.specs.declared.request.Request.TheVariants.{PutByte, GetByte, Yield, StackLimit, End}
 use Rattle.rv_table.specs.declared.trap.TrapKind.{TrapKind}
@@ -26,6 +26,13 @@ pub record Launch : Type 0 where
   pub image : ImageParts
   pub script : Script
   pub stack_size : ℕ
+
+abbrev pub launch_of : ImageParts → Script → ℕ → Launch
+launch_of image script stack = record { image = image; script = script; stack_size = stack }
+
+-- how large stacks are, in bytes
+abbrev pub IsStackSize : ℕ → Type 0
+IsStackSize n = (n % 16 ≡ 0) × (n ≤ STACK_SIZE_LIMIT)
 
 pub data Status : Type 0 where
   Running : Status

@@ -15,7 +15,7 @@ use Rattle.cmm_program.specs.declared.program.Program.{Program}
 use Rattle.cmm_program.specs.declared.statement.Form.{Form}
 use Rattle.cmm_program.specs.declared.statement.Form.TheVariants.{Call, Yield, Checked}
 use Rattle.cmm_program.specs.declared.statement.Statement.{Statement}
-use Rattle.cmm_top.specs.Lines.{site_count}
+use Rattle.cmm_top.specs.Counts.{site_count}
 
 -- a statement with a site has a token
 form_has : (q : Proc) (form : Form) → length (site_number form) ≤ own_tokens q form

@@ -1,14 +1,13 @@
--- Files that are read one after another.
-use Rattle.std.proofs.Common.{◌≡◌, ℕ, suc, Option, Some, None, IfSome, List, [], ◌∷◌, ◌++◌, ◌<◌, Bool, true, false, length, replicate, ap, refl, sym, ◌∙◌, subst, arith}
-use Rattle.std.proofs.lemmas.List.{append_assoc, length-replicate}
+-- Units that are read one after another.
+use Rattle.std.proofs.Common.{◌≡◌, ℕ, Option, Some, None, IfSome, List, [], ◌∷◌, ◌++◌, ◌<◌, Bool, true, false, length, ap, sym, ◌∙◌, subst}
+use Rattle.std.proofs.lemmas.List.{append_assoc}
 use Rattle.cmm_lexer.specs.declared.tokens.TheConstants.{UNIT_LIMIT}
-use Rattle.cmm_outside.specs.Storage.{Contents, FailedCall, HasFile}
-use Rattle.cmm_run.specs.Outside.{Outside as Streams}
-use Rattle.cmm_top.specs.declared.reading.FileBytes.{FileBytes}
+use Rattle.cmm_outside.specs.Storage.{Contents}
+use Rattle.cmm_work.specs.declared.reading.FileBytes.{FileBytes}
 use Rattle.cmm_top.specs.declared.sources.Sources.{Sources}
-use Rattle.cmm_top.specs.Call.{Outside}
-use Rattle.cmm_top.specs.Files.{HasBytes, HasUnits, Hold}
-use Rattle.cmm_top.specs.inside.Reading.{AreRead, AreUnits, IsFileOf}
+use Rattle.cmm_work.specs.Files.{HasBytes, HasUnits, Hold}
+use Rattle.cmm_top.specs.inside.Reading.{AreRead, AreUnits}
+use Rattle.cmm_work.specs.Reading.{IsFileOf}
 
 -- a unit behind those that were read is too long
 pub record IsCut (units : List (List ℕ)) (s : Sources) : Type 0 where
@@ -36,28 +35,6 @@ still_cut units unit s cut are =
     let is : units ++ unit ∷ [] ≡ s.units ++ c.unit ∷ (c.rest ++ unit ∷ []) = ap (λ us. us ++ unit ∷ []) c.is ∙ append_assoc s.units (c.unit ∷ c.rest) (unit ∷ []) in
     subst (At (units ++ unit ∷ []) s.units) (sym cut) (c.unit, (c.rest ++ unit ∷ []), is, c.more)
 
--- ---- a file
-
--- there are lists longer than any number
-longer : (n : ℕ) → (bytes : List ℕ) × (n < length bytes)
-longer n = (replicate (suc n) 0, subst (λ m. n < m) (sym (length-replicate (suc n) 0)) (omega arith))
-
--- a file that tells nothing may hold the bytes that were read
-pub has_whole : (contents : Option Contents) (name read : List ℕ) → HasFile contents name (λ file. read ≡ file) → HasBytes contents name (λ bytes. read ≡ bytes)
-has_whole None name read has = (read, tt, refl)
-has_whole (Some files) name read has = has
-
--- and one that is too long some that are
-pub has_more : (contents : Option Contents) (name : List ℕ) (limit : ℕ) → HasFile contents name (λ file. limit < length file) → HasBytes contents name (λ bytes. limit < length bytes)
-has_more None name limit has = let (bytes, long) = longer limit in (bytes, tt, long)
-has_more (Some files) name limit has = has
-
--- what holds of a file may be weaker
-pub bytes_so : (contents : Option Contents) (name : List ℕ) (P Q : List ℕ → Type 0) → ((bytes : List ℕ) → P bytes → Q bytes) → HasBytes contents name P → HasBytes contents name Q
-bytes_so contents name P Q so (bytes, there, holds) = (bytes, there, so bytes holds)
-
--- ---- units
-
 one_more : (files : Contents) (names units : List (List ℕ)) (name unit : List ℕ) → Hold files names units → files name ≡ Some unit → Hold files (names ++ name ∷ []) (units ++ unit ∷ [])
 one_more files [] [] name unit hold is = (is, tt)
 one_more files [] (u ∷ us) name unit hold is = absurd hold
@@ -80,10 +57,3 @@ more_read contents names name read s t (units, hold, are) (unit, there, is) adds
 pub units_so : (contents : Option Contents) (names : List (List ℕ)) (P Q : List (List ℕ) → Type 0) → ((units : List (List ℕ)) → P units → Q units) → HasUnits contents names P →
     HasUnits contents names Q
 units_so contents names P Q so (units, hold, holds) = (units, hold, so units holds)
-
--- ---- what stands outside
-
--- files that were read stand as they did
-pub same_outside : (streams : Streams) (files files' : Option Contents) (faults faults' : ℕ) (last last' : Option FailedCall) → files' ≡ files → faults' ≡ faults → last' ≡ last →
-    ◌≡◌ {A = Outside} (record { files = files'; file_faults = faults'; last_failed = last'; streams = streams }) (record { files = files; file_faults = faults; last_failed = last; streams = streams })
-same_outside streams files files' faults faults' last last' a b c = λ i. record { files = a i; file_faults = b i; last_failed = c i; streams = streams }

@@ -9,21 +9,29 @@ use Rattle.cmm_front.specs.declared.fault.FrontFault.{FrontFault}
 use Rattle.cmm_front.specs.declared.fault.FrontFault.TheVariants.{At, Memory}
 use Rattle.cmm_front.specs.Refusing.{BreaksLexis, IsFaultOf, IsRefused as IsRefusedAtFront}
 use Rattle.cmm_outside.specs.Storage.{Contents}
-use Rattle.cmm_top.specs.Call.{Outside}
-use Rattle.cmm_top.specs.Files.{HasUnits}
+use Rattle.cmm_work.specs.Standing.{Outside}
+use Rattle.cmm_work.specs.Files.{HasUnits}
 use Rattle.cmm_top.specs.Units.{IsRefused}
-use Rattle.cmm_top.specs.Work.{RanOutOfMemory}
-use Rattle.cmm_top.specs.declared.ending.Ending.{Ending}
-use Rattle.cmm_top.specs.declared.ending.Ending.TheVariants as ending
-use Rattle.cmm_top.specs.inside.Ending.{Refuses, work_of}
+use Rattle.cmm_work.specs.Work.{RanOutOfMemory}
+use Rattle.cmm_work.specs.declared.ending.Ending.{Ending}
+use Rattle.cmm_work.specs.declared.ending.Ending.TheVariants as ending
+use Rattle.cmm_top.specs.inside.Refusals.{Refuses}
+use Rattle.cmm_work.specs.Ending.{work_of}
+use Rattle.std.proofs.Common.{◌≡◌, ℕ, List, Option, None, inl, inr, refl, sym, subst}
+use Rattle.cmm_outside.specs.Storage.{Contents}
+use Rattle.cmm_work.specs.declared.reading.ReadFault.TheVariants.{Memory}
+use Rattle.cmm_top.specs.declared.sources.Sources.{Sources}
+use Rattle.cmm_work.specs.Running.{IsRefused}
+use Rattle.cmm_top.specs.Units.{HaveFault, IsRefused as AreRefused}
+use Rattle.cmm_top.specs.inside.Refusals.{LackImage}
+use Rattle.cmm_top.specs.inside.Reading.{AreRead, AreUnits}
+use Rattle.cmm_work.proofs.Shared.{ran_out}
+use Rattle.cmm_top.proofs.Refusing.{fault_in, is_refused}
+use Rattle.cmm_work.proofs.Shared.{ran_out}
 
 pub lexis_is : (units : List (List ℕ)) (e : FrontFault) → IsRefusedAtFront (BreaksLexis units) e → IsRefusedBy (IsFaultOf units) (of_front e)
 lexis_is units (At f) broken = inl broken
 lexis_is units Memory broken = tt
-
--- memory ran out, and nothing was done
-pub ran_out : (before after : Outside) → after ≡ before → RanOutOfMemory (work_of ending.OutOfMemory None before after)
-ran_out before after same = record { nothing = record { same = same; no_image = refl }; ends = record { line = refl; status = refl } }
 
 -- units that are refused come to that
 pub is_refused : (names : List (List ℕ)) (HasFault : Fault → Type 0) (before after : Outside) (fault : BuildFault) (end : Ending) → after ≡ before → Refuses names fault end →
@@ -68,3 +76,11 @@ pub fault_in : (contents : Option Contents) (names : List (List ℕ)) (fault : B
     IsRefusedBy (λ f. HasUnits contents names (λ units. IsFaultOf units f)) fault
 fault_in contents names (build.At f) has = has
 fault_in contents names build.Memory has = tt
+
+-- what was read has no image
+pub no_image : (names : List (List ℕ)) (before after : Outside) (sources : Sources) (end : Ending) → after ≡ before → AreRead before.files names sources →
+    ((units : List (List ℕ)) → AreUnits units sources → LackImage names units end) →
+    AreRefused names (HaveFault names (work_of end None before after)) (work_of end None before after) ⊎ RanOutOfMemory (work_of end None before after)
+no_image names before after sources end same (units, hold, are) lack =
+    let l = lack units are in
+    is_refused names (λ f. HaveFault names (work_of end None before after) f) before after l.fault end same l.refuses (fault_in before.files names l.fault (units, hold, l.cause))

@@ -1,20 +1,21 @@
 -- What the program's call promises, for all words, files and streams.
 use Rattle.std.specs.Prelude.{◌≡◌, ◌⊎◌, ℕ, List, Option, Some, None}
 use Rattle.cmm_image.specs.declared.parts.ImageParts.{ImageParts}
-use Rattle.cmm_top.specs.declared.status.Status.{Status}
-use Rattle.cmm_top.specs.declared.status.Status.TheVariants.{Usage}
+use Rattle.cmm_work.specs.declared.status.Status.{Status}
+use Rattle.cmm_work.specs.declared.status.Status.TheVariants.{Usage}
 use Rattle.cmm_top.specs.Building.{Builds}
-use Rattle.cmm_top.specs.Call.{Call, Closes, Outside}
-use Rattle.cmm_top.specs.Converting.{Converts, Migrates}
+use Rattle.cmm_top.specs.Call.{Call, Closes}
+use Rattle.cmm_work.specs.Standing.{Outside}
+use Rattle.cmm_work.specs.Converting.{Converts, Migrates}
 use Rattle.cmm_top.specs.Executing.{Executes}
 use Rattle.cmm_top.specs.Generating.{Generates}
-use Rattle.cmm_top.specs.Inspecting.{Inspects}
-use Rattle.cmm_top.specs.Lines.{usage_line}
-use Rattle.cmm_top.specs.Running.{RunsFile}
-use Rattle.cmm_top.specs.Status.{number_of}
-use Rattle.cmm_top.specs.Walking.{Walks}
+use Rattle.cmm_work.specs.Inspecting.{Inspects}
+use Rattle.cmm_work.specs.Lines.{usage_line}
+use Rattle.cmm_work.specs.Running.{RunsFile}
+use Rattle.cmm_work.specs.Status.{number_of}
+use Rattle.cmm_work.specs.Walking.{Walks}
 use Rattle.cmm_top.specs.Words.{Task, execute, run, build, walk, generate, convert, migrate, inspect, task_of}
-use Rattle.cmm_top.specs.Work.{DoesNothing, Ends, RanOutOfMemory, Work}
+use Rattle.cmm_work.specs.Work.{DoesNothing, Ends, RanOutOfMemory, Work}
 
 abbrev pub Does : Task → Work → Type 0
 Does (execute names client limits) w = Executes names client limits w

@@ -4,10 +4,10 @@ use Rattle.cmm_compile.specs.Agreement.{Agree}
 use Rattle.cmm_image.specs.declared.parts.ImageParts.{ImageParts}
 use Rattle.cmm_image.specs.Images.{SpellsImage}
 use Rattle.cmm_outside.specs.Storage.{Contents}
-use Rattle.cmm_top.specs.Files.{HasUnits}
+use Rattle.cmm_work.specs.Files.{HasUnits}
 use Rattle.cmm_top.specs.Units.{HaveNoImage}
-use Rattle.cmm_top.specs.Work.{Work}
-use Rattle.cmm_top.specs.Writing.{FailsToWrite, HasWritten}
+use Rattle.cmm_work.specs.Work.{Work}
+use Rattle.cmm_work.specs.Writing.{FailsToWrite, HasWritten}
 
 -- these bytes are those of an image that agrees with the units
 pub record IsBuiltOf (contents : Option Contents) (names : List (List ℕ)) (bytes : List ℕ) : Type 0 where

@@ -4,10 +4,10 @@ use Rattle.cmm_command.specs.declared.command.RunLimits.{RunLimits}
 use Rattle.cmm_compile.specs.Agreement.{Agree}
 use Rattle.cmm_image.specs.declared.parts.ImageParts.{ImageParts}
 use Rattle.cmm_script.specs.declared.script.Script.{Script}
-use Rattle.cmm_top.specs.Files.{HasUnits}
-use Rattle.cmm_top.specs.Script.{HasScript, HoldsNoScript, named_file}
+use Rattle.cmm_work.specs.Files.{HasUnits}
+use Rattle.cmm_work.specs.Script.{HasScript, HoldsNoScript, named_file}
 use Rattle.cmm_top.specs.Units.{HaveNoImage}
-use Rattle.cmm_top.specs.Work.{Ran, Work}
+use Rattle.cmm_work.specs.Work.{Ran, Work}
 
 -- an image agrees with the units, and has run with the script
 pub record HasRun (names : List (List ℕ)) (client : Option (List ℕ)) (limits : RunLimits) (w : Work) : Type 0 where

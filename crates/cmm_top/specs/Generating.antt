@@ -10,11 +10,11 @@ use Rattle.cmm_image.specs.declared.parts.ImageParts.{ImageParts}
 use Rattle.cmm_outside.specs.Faults.{Rose}
 use Rattle.cmm_outside.specs.Output.{Appends, AppendsFront}
 use Rattle.cmm_program.specs.declared.program.Program.{Program}
-use Rattle.cmm_top.specs.declared.status.Status.TheVariants.{OutputFault}
-use Rattle.cmm_top.specs.Call.{SameButLog}
-use Rattle.cmm_top.specs.Lines.{counts_lines}
+use Rattle.cmm_work.specs.declared.status.Status.TheVariants.{OutputFault}
+use Rattle.cmm_work.specs.Standing.{SameButLog}
+use Rattle.cmm_top.specs.Counts.{counts_lines}
 use Rattle.cmm_top.specs.Units.{IsRefused}
-use Rattle.cmm_top.specs.Work.{Ends, Ran, RanOutOfMemory, Work, no_script}
+use Rattle.cmm_work.specs.Work.{Ends, Ran, RanOutOfMemory, Work, no_script}
 
 -- how far the run goes: as one does for which nothing is said
 abbrev pub usual_limits : RunLimits

@@ -2,10 +2,10 @@
 use Rattle.std.specs.Prelude.{◌≡◌, ◌⊎◌, ℕ, List, slice_get, Some}
 use Rattle.cmm_static_semantics.specs.declared.fault.Fault.{Fault}
 use Rattle.cmm_front.specs.Refusing.{IsFaultOf}
-use Rattle.cmm_top.specs.declared.status.Status.TheVariants.{Refused}
-use Rattle.cmm_top.specs.Files.{FailsToRead, HasUnits}
-use Rattle.cmm_top.specs.Lines.{refused_line}
-use Rattle.cmm_top.specs.Work.{DoesNothing, Ends, RanOutOfMemory, Work}
+use Rattle.cmm_work.specs.declared.status.Status.TheVariants.{Refused}
+use Rattle.cmm_work.specs.Files.{FailsToRead, HasUnits}
+use Rattle.cmm_work.specs.Lines.{refused_line}
+use Rattle.cmm_work.specs.Work.{DoesNothing, Ends, RanOutOfMemory, Work}
 
 -- units are refused, for a fault of the one that has this name, and nothing was done
 pub record IsRefused (names : List (List ℕ)) (HasFault : Fault → Type 0) (w : Work) : Type 0 where

@@ -1,5 +1,3 @@
-pub mod Ending
 pub mod Reading
+pub mod Refusals
 pub mod Tasks
-pub mod Forms
-pub mod Ran

@@ -7,17 +7,17 @@ ghost use Rattle.cmm_outside.specs.Reads.{AreReadInOrder, Made};
 ghost use Rattle.cmm_outside.specs.declared.storage.TheConstants.{NAME_LIMIT};
 ghost use Rattle.cmm_run.specs.Outside.{Outside as Streams};
 ghost use Rattle.cmm_top.specs.Building.{Builds};
-ghost use Rattle.cmm_top.specs.Call.{standing};
-ghost use Rattle.cmm_top.specs.Files.{HasUnits};
+ghost use Rattle.cmm_work.specs.Standing.{standing};
+ghost use Rattle.cmm_work.specs.Files.{HasUnits};
 ghost use Rattle.cmm_top.specs.Units.{HaveNoImage};
 ghost use Rattle.cmm_top.specs.Reads.{units_in};
-ghost use Rattle.cmm_top.specs.inside.Ending.{work_of};
+ghost use Rattle.cmm_work.specs.Ending.{work_of};
 
-use crate::ending::Ending;
 use crate::sources::sources_of;
 use crate::units::built;
 use cmm_image::{Image, write_image};
 use cmm_outside::{Failed, Files, write_file};
+use cmm_work::Ending;
 use std::alloc::{AllocError, Global};
 
 /// The image of the units in files of these names. The error is what the call comes to where there is none: nothing was done then but to read.

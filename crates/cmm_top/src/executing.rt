@@ -3,26 +3,26 @@
 ghost use Rattle.std.specs.Prelude.{◌≡◌, ◌≤◌, ◌<◌, ◌++◌, length, map, None, IfOk, IfErr, IfSome, OnOk};
 ghost use Rattle.std.specs.List.{All};
 ghost use Rattle.std.specs.Option.{option_map};
-ghost use Rattle.cmm_compile.specs.Agreement.{Agree, IsStackSize};
+ghost use Rattle.cmm_compile.specs.Agreement.{Agree};
+ghost use Rattle.cmm_image_machine.specs.Machine.{IsStackSize};
 ghost use Rattle.cmm_outside.specs.Reads.{AreReadInOrder, Made};
 ghost use Rattle.cmm_outside.specs.declared.storage.TheConstants.{NAME_LIMIT};
 ghost use Rattle.cmm_run.specs.Outside.{Outside as Streams, outside_of};
 ghost use Rattle.cmm_script.specs.Limits.{HasFewValues};
-ghost use Rattle.cmm_top.specs.Call.{standing};
+ghost use Rattle.cmm_work.specs.Standing.{standing};
 ghost use Rattle.cmm_top.specs.Executing.{CannotRun, Executes};
-ghost use Rattle.cmm_top.specs.Files.{HasUnits};
-ghost use Rattle.cmm_top.specs.Script.{HasScript};
-ghost use Rattle.cmm_top.specs.Reads.{script_in, units_in};
-ghost use Rattle.cmm_top.specs.inside.Ending.{work_of};
+ghost use Rattle.cmm_work.specs.Files.{HasUnits};
+ghost use Rattle.cmm_work.specs.Script.{HasScript};
+ghost use Rattle.cmm_work.specs.Reads.{script_in};
+ghost use Rattle.cmm_top.specs.Reads.{units_in};
+ghost use Rattle.cmm_work.specs.Ending.{work_of};
 
-use crate::client::{client_in, script_of};
-use crate::ending::Ending;
-use crate::session::{Prepared, run_image};
 use crate::sources::sources_of;
 use crate::units::built;
 use cmm_command::RunLimits;
 use cmm_image::Image;
 use cmm_outside::{Files, Sink, Source};
+use cmm_work::{Ending, Prepared, client_in, run_image, script_of};
 use rv_memory::NoMemory;
 use std::alloc::Global;
 

@@ -1,6 +1,6 @@
 //! `gen`: the unit of a number is built, its counts are told, and its image runs.
 
-ghost use Rattle.std.specs.Prelude.{◌≡◌, ◌≤◌, ◌∷◌, [], ℕ, Option, None, sum_by, length, IfOk, IfErr};
+ghost use Rattle.std.specs.Prelude.{◌≡◌, ◌≤◌, ◌∷◌, [], ℕ, Option, None, IfOk, IfErr};
 ghost use Rattle.cmm_compile.specs.Agreement.{AgreesWith};
 ghost use Rattle.cmm_program.specs.InRange.{IsInRange};
 ghost use Rattle.cmm_program.specs.Limits.{token_limit};
@@ -9,13 +9,11 @@ ghost use Rattle.cmm_generated.specs.Generated.{generated};
 ghost use Rattle.cmm_outside.specs.Output.{WritesAll};
 ghost use Rattle.cmm_outside.specs.Storage.{Contents, FailedCall};
 ghost use Rattle.cmm_run.specs.Outside.{outside_of};
-ghost use Rattle.cmm_top.specs.Call.{Outside};
+ghost use Rattle.cmm_work.specs.Standing.{Outside};
 ghost use Rattle.cmm_top.specs.Generating.{Generates, HasNoImage};
-ghost use Rattle.cmm_top.specs.Lines.{counts_lines, site_count};
-ghost use Rattle.cmm_top.specs.inside.Ending.{work_of};
+ghost use Rattle.cmm_top.specs.Counts.{counts_lines, site_count};
+ghost use Rattle.cmm_work.specs.Ending.{work_of};
 
-use crate::ending::Ending;
-use crate::session::{Prepared, load};
 use crate::units::refusal;
 use cmm_command::{RunLimits, USUAL_STACK, USUAL_STEPS};
 use cmm_compile::{Compiled, compile_program};
@@ -25,6 +23,7 @@ use cmm_outside::{Failed, Sink, Source};
 use cmm_program::Program;
 use cmm_report::{Part, write_parts};
 use cmm_script::Script;
+use cmm_work::{Ending, Prepared, load};
 use rv_memory::NoMemory;
 use std::alloc::{AllocError, Global};
 

@@ -4,12 +4,13 @@ ghost use Rattle.std.specs.Prelude.{◌≡◌, ◌+◌, ◌≤◌, ◌++◌, ◌
 ghost use Rattle.std.specs.List.{All};
 ghost use Rattle.cmm_outside.specs.declared.storage.TheConstants.{NAME_LIMIT};
 ghost use Rattle.cmm_top.specs.Reads.{units_in};
-ghost use Rattle.cmm_top.specs.inside.Reading.{AreRead, AreUnits, AreWithin, IsFileOf, ReadsEach, ReadsOrFails};
+ghost use Rattle.cmm_top.specs.inside.Reading.{AreRead, AreUnits, AreWithin};
+ghost use Rattle.cmm_work.specs.Reading.{IsFileOf, ReadsEach, ReadsOrFails};
 
-use crate::reading::{FileBytes, ReadFault, bytes_in};
 use cmm_items::Items;
 use cmm_lexer::UNIT_LIMIT;
 use cmm_outside::Files;
+use cmm_work::{FileBytes, ReadFault, bytes_in};
 use std::alloc::{AllocError, Global};
 
 /// The bytes of units, in their order: of all, or of those before the first that is longer than a unit may be.

@@ -1,6 +1,5 @@
 //! The task of a command line.
 
-ghost use Rattle.std.specs.Prelude.{◌≡◌};
 ghost use Rattle.cmm_command.specs.Meaning.{plain};
 ghost use Rattle.cmm_top.specs.Words.{task_in as task_meant};
 ghost use Rattle.cmm_top.specs.inside.Tasks.{IsAsked};

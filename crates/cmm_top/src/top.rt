@@ -4,27 +4,22 @@ ghost use Rattle.std.specs.Prelude.{◌<◌, ◌^◌, length};
 ghost use Rattle.cmm_outside.specs.Reads.{AreReadInOrder, Made};
 ghost use Rattle.cmm_run.specs.Outside.{outside_of};
 ghost use Rattle.cmm_top.specs.Answers.{Answers, ComesTo, Does};
-ghost use Rattle.cmm_top.specs.Call.{standing};
+ghost use Rattle.cmm_work.specs.Standing.{standing};
 ghost use Rattle.cmm_top.specs.Reads.{read_by, read_for};
 ghost use Rattle.cmm_top.specs.Words.{texts};
-ghost use Rattle.cmm_top.specs.inside.Ending.{work_of};
+ghost use Rattle.cmm_work.specs.Ending.{work_of};
 ghost use Rattle.cmm_top.specs.inside.Tasks.{CanBeDone, plain_task};
 
 use crate::building::build;
-use crate::converting::{Form, convert};
-use crate::ending::Ending;
 use crate::executing::exec;
+use crate::finish::Finish;
 use crate::generating::generate;
-use crate::inspecting::inspect;
-use crate::line::close;
-use crate::running::run;
-use crate::status::Finish;
 use crate::task::{Task, task_in};
-use crate::walking::walk;
 use cmm_command::laws::commands_are_in_range;
 use cmm_command::{CommandFault, command_of};
 use cmm_image::Image;
 use cmm_outside::{Files, Sink, Source};
+use cmm_work::{Ending, Form, close, convert, inspect, run, walk};
 use std::alloc::Global;
 
 /// What a task comes to, before the line that says so. With it the image that was loaded to be run, if `exec` or `gen` did.

@@ -4,14 +4,14 @@ ghost use Rattle.std.specs.Prelude.{◌<◌, ◌^◌, List, ℕ, length, map, If
 ghost use Rattle.cmm_compile.specs.Agreement.{Agree};
 ghost use Rattle.cmm_compile.specs.Refusing.{IsRefused};
 ghost use Rattle.cmm_front.specs.Refusing.{IsFaultOf};
-ghost use Rattle.cmm_top.specs.inside.Ending.{LackImage, Refuses};
+ghost use Rattle.cmm_top.specs.inside.Refusals.{LackImage, Refuses};
 ghost use Rattle.cmm_top.specs.inside.Reading.{AreUnits, AreWithin};
 
-use crate::ending::Ending;
 use crate::sources::Sources;
 use cmm_compile::{BuildFault, compile};
 use cmm_front::too_long;
 use cmm_image::Image;
+use cmm_work::Ending;
 use std::alloc::Global;
 
 /// The image of units as they were read.

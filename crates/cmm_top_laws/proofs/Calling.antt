@@ -9,13 +9,14 @@ use Rattle.cmm_program.specs.Memory.{IsByte}
 use Rattle.cmm_image.specs.declared.parts.ImageParts.{ImageParts}
 use Rattle.cmm_image.specs.Images.{SpellsImage}
 use Rattle.cmm_image.specs.Laws.{ImagesAreOne}
-use Rattle.cmm_compile.specs.Agreement.{AgreesWith, launch_of, setting_of}
+use Rattle.cmm_compile.specs.Agreement.{AgreesWith, setting_of}
+use Rattle.cmm_image_machine.specs.Machine.{launch_of}
 use Rattle.cmm_run.specs.declared.outcome.Outcome.{Outcome}
 use Rattle.cmm_run.specs.Outside.{Outside as Streams}
 use Rattle.cmm_run.specs.Runs.{Runs}
 use Rattle.cmm_command.specs.declared.command.RunLimits.{RunLimits}
 use Rattle.cmm_top.specs.Generating.{usual_limits}
-use Rattle.cmm_top.specs.Work.{no_script}
+use Rattle.cmm_work.specs.Work.{no_script}
 use Rattle.cmm_top_laws.specs.Calls.{CanRun, RunsOf}
 use Rattle.cmm_top_laws.specs.Laws.{BuiltBytesRunSo, BuiltFilesRunSo, ExecIsTheMachine, GenIsTheMachine}
 use Rattle.cmm_top_laws.proofs.Explaining.{runs_are_explained}

@@ -11,15 +11,14 @@ use Rattle.cmm_program.specs.Asking.{Break}
 use Rattle.cmm_image.specs.declared.parts.ImageParts.{ImageParts}
 use Rattle.cmm_image.specs.Laws.{ImagesAreOne}
 use Rattle.cmm_image_machine.specs.Frames.{Element}
-use Rattle.cmm_image_machine.specs.Machine.{region_of}
+use Rattle.cmm_image_machine.specs.Machine.{region_of, launch_of}
 use Rattle.cmm_image_machine.specs.Walks.{chain_walk, element_shown}
-use Rattle.cmm_compile.specs.Agreement.{launch_of}
 use Rattle.cmm_snapshot.specs.Laws.{SnapshotsAreOne, SnapshotsKeepStates}
 use Rattle.cmm_snapshot.specs.SnapshotFormat.{taken_of}
 use Rattle.cmm_snapshot.specs.Snapshots.{SpellsSnapshot}
 use Rattle.cmm_walk.specs.Texts.{end_text}
-use Rattle.cmm_top.specs.Walking.{FailsToWalk, IsTorn, IsWhole, Stopped, chain_in}
-use Rattle.cmm_top.specs.Work.{Work}
+use Rattle.cmm_work.specs.Walking.{FailsToWalk, IsTorn, IsWhole, Stopped, chain_in}
+use Rattle.cmm_work.specs.Work.{Work}
 use Rattle.cmm_top_laws.specs.Laws.{SavedRunsWalkSo, SnapshotsWalkSo}
 use Rattle.cmm_top_laws.specs.Walked.{WalksSo}
 

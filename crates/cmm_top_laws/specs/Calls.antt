@@ -12,21 +12,22 @@ use Rattle.cmm_generated.specs.Generated.{generated}
 use Rattle.cmm_program.specs.Memory.{IsByte}
 use Rattle.cmm_front.specs.Programs.{IsProgramOf}
 use Rattle.cmm_image.specs.declared.parts.ImageParts.{ImageParts}
-use Rattle.cmm_image_machine.specs.Machine.{region_of}
+use Rattle.cmm_image_machine.specs.Machine.{region_of, IsStackSize, launch_of}
 use Rattle.cmm_image_machine.specs.Walks.{chain_walk}
 use Rattle.cmm_image_machine.specs.Tables.{placement_of}
-use Rattle.cmm_compile.specs.Agreement.{IsStackSize, launch_of, setting_of}
+use Rattle.cmm_compile.specs.Agreement.{setting_of}
 use Rattle.cmm_run.specs.declared.outcome.Outcome.{Outcome}
 use Rattle.cmm_run.specs.Outside.{Outside as Streams}
 use Rattle.cmm_command.specs.declared.command.RunLimits.{RunLimits}
-use Rattle.cmm_top.specs.Files.{HasUnits}
+use Rattle.cmm_work.specs.Files.{HasUnits}
 use Rattle.cmm_top.specs.Generating.{usual_limits}
-use Rattle.cmm_top.specs.Lines.{counts_lines, outcome_line}
-use Rattle.cmm_top.specs.Saving.{Saves, is_stopped, saved_to}
-use Rattle.cmm_top.specs.Script.{HasScript}
-use Rattle.cmm_top.specs.Status.{status_of}
+use Rattle.cmm_top.specs.Counts.{counts_lines}
+use Rattle.cmm_work.specs.Lines.{outcome_line}
+use Rattle.cmm_work.specs.Saving.{Saves, is_stopped, saved_to}
+use Rattle.cmm_work.specs.Script.{HasScript}
+use Rattle.cmm_work.specs.Status.{status_of}
 use Rattle.cmm_top.specs.Words.{Task, build, convert, execute, generate, inspect, migrate, run, walk}
-use Rattle.cmm_top.specs.Work.{Ends, Work, no_script}
+use Rattle.cmm_work.specs.Work.{Ends, Work, no_script}
 use Rattle.cmm_top_laws.specs.Explained.{IsExplained}
 
 -- what a run may be asked for: stacks are as words give them, and an input that tells what it has has bytes

@@ -12,11 +12,11 @@ use Rattle.cmm_program.specs.Walks.{walk_of}
 use Rattle.cmm_program.specs.Memory.{IsByte}
 use Rattle.cmm_image.specs.declared.parts.ImageParts.{ImageParts}
 use Rattle.cmm_image.specs.Images.{SpellsImage}
-use Rattle.cmm_image_machine.specs.Machine.{Launch, first_run, region_of}
+use Rattle.cmm_image_machine.specs.Machine.{Launch, first_run, region_of, launch_of}
 use Rattle.cmm_image_machine.specs.Observed.{image_machine}
 use Rattle.cmm_image_machine.specs.Walks.{chain_walk}
 use Rattle.cmm_simulation.specs.OnceBegun.{AgreesOnceBegun}
-use Rattle.cmm_compile.specs.Agreement.{launch_of, setting_of}
+use Rattle.cmm_compile.specs.Agreement.{setting_of}
 use Rattle.cmm_run.specs.declared.outcome.Outcome.{Outcome}
 use Rattle.cmm_run.specs.declared.outcome.Outcome.TheVariants.{Stopped}
 use Rattle.cmm_run.specs.Outside.{Outside as Streams}
@@ -26,11 +26,11 @@ use Rattle.cmm_command.specs.declared.command.RunLimits.{RunLimits}
 use Rattle.cmm_top.specs.Building.{HasBuilt}
 use Rattle.cmm_top.specs.Executing as executing
 use Rattle.cmm_top.specs.Generating as generating
-use Rattle.cmm_top.specs.Running as running
-use Rattle.cmm_top.specs.Saving.{HasSaved}
-use Rattle.cmm_top.specs.Walking.{HasWalked}
+use Rattle.cmm_work.specs.Running as running
+use Rattle.cmm_work.specs.Saving.{HasSaved}
+use Rattle.cmm_work.specs.Walking.{HasWalked}
 use Rattle.cmm_top.specs.Words.{Task, task_of}
-use Rattle.cmm_top.specs.Work.{Work}
+use Rattle.cmm_work.specs.Work.{Work}
 use Rattle.cmm_top_laws.specs.Calls.{CanRun, HasStackSize, IsMachineOf, IsMachineOfBuilt, IsMachineOfGenerated}
 use Rattle.cmm_top_laws.specs.Explained.{IsExplained, machine_in, state_at}
 use Rattle.cmm_top_laws.specs.Walked.{WalksSo}

@@ -3,8 +3,8 @@ use Rattle.std.specs.Prelude.{◌≡◌, ◌⊎◌, List, []}
 use Rattle.cmm_outside.specs.Faults.{Rose}
 use Rattle.cmm_outside.specs.Output.{Appends, AppendsFront}
 use Rattle.cmm_script.specs.Walk.{Activation, walk_text}
-use Rattle.cmm_top.specs.Work.{Ends, Work}
-use Rattle.cmm_top.specs.declared.status.Status.TheVariants.{Done, OutputFault}
+use Rattle.cmm_work.specs.Work.{Ends, Work}
+use Rattle.cmm_work.specs.declared.status.Status.TheVariants.{Done, OutputFault}
 
 -- the whole walk
 pub record HasWritten (walk : List Activation) (w : Work) : Type 0 where

@@ -13,7 +13,7 @@ use cmm_words::{Cmp, Constant, Op1, Op2};
 use std::fmt;
 
 /// What has a text in that of a graph.
-pub(crate) trait Shown {
+pub(crate) trait Textual {
     fn show<W: fmt::Write>(&self, f: &mut fmt::Formatter<W>) -> fmt::Result;
 }
 
@@ -21,34 +21,34 @@ pub(crate) trait Shown {
 #[derive(Drop)]
 pub(crate) struct Text<'a, T>(pub(crate) &'a T);
 
-impl<T: Shown> fmt::Display for Text<'_, T> {
+impl<T: Textual> fmt::Display for Text<'_, T> {
     fn fmt<W: fmt::Write>(&self, f: &mut fmt::Formatter<W>) -> fmt::Result {
         self.0.show(f)
     }
 }
 
-impl Shown for NodeId {
+impl Textual for NodeId {
     fn show<W: fmt::Write>(&self, f: &mut fmt::Formatter<W>) -> fmt::Result {
         let number = self.number;
         write!(f, "n{number}")
     }
 }
 
-impl Shown for Variable {
+impl Textual for Variable {
     fn show<W: fmt::Write>(&self, f: &mut fmt::Formatter<W>) -> fmt::Result {
         let number = self.number;
         write!(f, "v{number}")
     }
 }
 
-impl Shown for ContinuationId {
+impl Textual for ContinuationId {
     fn show<W: fmt::Write>(&self, f: &mut fmt::Formatter<W>) -> fmt::Result {
         let number = self.number;
         write!(f, "k{number}")
     }
 }
 
-impl Shown for Local {
+impl Textual for Local {
     fn show<W: fmt::Write>(&self, f: &mut fmt::Formatter<W>) -> fmt::Result {
         match self {
             Local::Variable(variable) => variable.show(f),
@@ -58,7 +58,7 @@ impl Shown for Local {
 }
 
 /// A number, or a procedure or a data label with a number of bytes added.
-impl Shown for Constant {
+impl Textual for Constant {
     fn show<W: fmt::Write>(&self, f: &mut fmt::Formatter<W>) -> fmt::Result {
         match *self {
             Constant::Number(word, _) => write!(f, "{word}"),
@@ -70,7 +70,7 @@ impl Shown for Constant {
     }
 }
 
-impl Shown for Operand {
+impl Textual for Operand {
     fn show<W: fmt::Write>(&self, f: &mut fmt::Formatter<W>) -> fmt::Result {
         match self {
             Operand::Constant(constant) => constant.show(f),
@@ -81,7 +81,7 @@ impl Shown for Operand {
     }
 }
 
-impl Shown for Argument {
+impl Textual for Argument {
     fn show<W: fmt::Write>(&self, f: &mut fmt::Formatter<W>) -> fmt::Result {
         write!(f, "{}:{}", Text(&self.value), self.width.bits())
     }
@@ -134,7 +134,7 @@ fn comparison_name(operator: Cmp) -> &'static str {
     }
 }
 
-impl Shown for Comparison {
+impl Textual for Comparison {
     fn show<W: fmt::Write>(&self, f: &mut fmt::Formatter<W>) -> fmt::Result {
         let name = comparison_name(self.operator);
         let bits = self.width.bits();
@@ -147,7 +147,7 @@ impl Shown for Comparison {
     }
 }
 
-impl Shown for Rvalue {
+impl Textual for Rvalue {
     fn show<W: fmt::Write>(&self, f: &mut fmt::Formatter<W>) -> fmt::Result {
         match *self {
             Rvalue::Copy(operand) => operand.show(f),
@@ -194,7 +194,7 @@ impl Shown for Rvalue {
     }
 }
 
-impl Shown for Target {
+impl Textual for Target {
     fn show<W: fmt::Write>(&self, f: &mut fmt::Formatter<W>) -> fmt::Result {
         match self {
             Target::Variable(number, _) => write!(f, "v{number}"),
@@ -203,7 +203,7 @@ impl Shown for Target {
     }
 }
 
-impl Shown for Destination {
+impl Textual for Destination {
     fn show<W: fmt::Write>(&self, f: &mut fmt::Formatter<W>) -> fmt::Result {
         match self {
             Destination::Target(target) => target.show(f),
@@ -213,7 +213,7 @@ impl Shown for Destination {
 }
 
 /// Some things, with commas between them.
-fn show_list<T: Shown, W: fmt::Write>(list: &[T], f: &mut fmt::Formatter<W>) -> fmt::Result {
+fn show_list<T: Textual, W: fmt::Write>(list: &[T], f: &mut fmt::Formatter<W>) -> fmt::Result {
     let mut comma = "";
     for item in list {
         write!(f, "{comma}{}", Text(item))?;
@@ -222,7 +222,7 @@ fn show_list<T: Shown, W: fmt::Write>(list: &[T], f: &mut fmt::Formatter<W>) -> 
     Ok(())
 }
 
-impl Shown for Range {
+impl Textual for Range {
     fn show<W: fmt::Write>(&self, f: &mut fmt::Formatter<W>) -> fmt::Result {
         let from = self.from;
         let to = self.to;
@@ -230,7 +230,7 @@ impl Shown for Range {
     }
 }
 
-impl Shown for Arm {
+impl Textual for Arm {
     fn show<W: fmt::Write>(&self, f: &mut fmt::Formatter<W>) -> fmt::Result {
         show_list(self.ranges.as_slice(), f)?;
         write!(f, " -> {}", Text(&self.to))
@@ -250,7 +250,7 @@ fn show_exits<W: fmt::Write>(
     show_list(continuations, f)
 }
 
-impl Shown for Exits {
+impl Textual for Exits {
     fn show<W: fmt::Write>(&self, f: &mut fmt::Formatter<W>) -> fmt::Result {
         match &self.normal {
             Some(node) => write!(f, "-> {}", Text(node))?,
@@ -262,7 +262,7 @@ impl Shown for Exits {
     }
 }
 
-impl Shown for HostCall {
+impl Textual for HostCall {
     fn show<W: fmt::Write>(&self, f: &mut fmt::Formatter<W>) -> fmt::Result {
         match self {
             HostCall::PutByte(value) => write!(f, "putbyte {}", Text(value)),
@@ -317,7 +317,7 @@ fn show_transfer<W: fmt::Write>(kind: &NodeKind, f: &mut fmt::Formatter<W>) -> f
     }
 }
 
-impl Shown for NodeKind {
+impl Textual for NodeKind {
     fn show<W: fmt::Write>(&self, f: &mut fmt::Formatter<W>) -> fmt::Result {
         match self {
             NodeKind::Entry { formals, next } => {
@@ -379,7 +379,7 @@ impl Shown for NodeKind {
     }
 }
 
-impl Shown for Graph {
+impl Textual for Graph {
     fn show<W: fmt::Write>(&self, f: &mut fmt::Formatter<W>) -> fmt::Result {
         let variables = self.variables;
         let temporaries = self.temporaries;

@@ -3,7 +3,7 @@ use Rattle.std.specs.Prelude.{◌≡◌, ◌<◌, length, map, IfSome, Option, S
 use Rattle.std.specs.List.{All}
 use Rattle.std.specs.Option.{option_map}
 use Rattle.cmm_command.specs.Laws.{IsName}
-use Rattle.cmm_compile.specs.Agreement.{IsStackSize}
+use Rattle.cmm_image_machine.specs.Machine.{IsStackSize}
 use Rattle.cmm_top.specs.declared.task.Task.{Task as TaskAsked}
 use Rattle.cmm_top.specs.declared.task.Task.TheVariants as asked
 use Rattle.cmm_top.specs.Words.{Task, execute, run, build, walk, generate, convert, migrate, inspect}

@@ -1,13 +1,13 @@
 use Rattle.std.proofs.Common.{◌≡◌, Bor, List, ℕ, None, inl, inr, map, sym, subst}
 use Rattle.cmm_compile.specs.Agreement.{Agree}
-use Rattle.cmm_top.specs.Call.{Outside, standing}
+use Rattle.cmm_work.specs.Standing.{standing}
 use Rattle.cmm_top.specs.Units.{HaveNoImage}
-use Rattle.cmm_top.specs.declared.ending.Ending.{Ending}
-use Rattle.cmm_top.specs.inside.Ending.{work_of}
+use Rattle.cmm_work.specs.declared.ending.Ending.{Ending}
+use Rattle.cmm_work.specs.Ending.{work_of}
 use Rattle.cmm_top.specs.inside.Reading.{AreUnits}
-use Rattle.cmm_top.proofs.FilesRead.{same_outside, units_so}
-use Rattle.cmm_top.proofs.Preparing.{handed, no_image}
-use Rattle.cmm_top.proofs.ReadsMade.{read_whole}
+use Rattle.cmm_work.proofs.Shared.{same_outside, handed, read_whole}
+use Rattle.cmm_top.proofs.FilesRead.{units_so}
+use Rattle.cmm_top.proofs.Refusing.{no_image}
 use Rattle.cmm_top.specs.Reads.{units_in}
 use Rattle.cmm_top.proofs.building.image_in.Goals as goal
 

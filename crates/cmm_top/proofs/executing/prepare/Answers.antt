@@ -1,19 +1,21 @@
-use Rattle.std.proofs.Common.{◌≡◌, ◌++◌, [], refl, Bor, List, ℕ, Option, None, inl, inr, map, sym, subst, ◌∙◌}
+use Rattle.std.proofs.Common.{◌≡◌, ◌++◌, refl, Bor, List, ℕ, Option, None, inl, inr, map, sym, subst, ◌∙◌}
 use Rattle.std.specs.Option.{option_map}
 use Rattle.cmm_compile.specs.Agreement.{Agree}
 use Rattle.cmm_outside.specs.Storage.{Contents}
-use Rattle.cmm_top.specs.Call.{Outside, standing}
+use Rattle.cmm_work.specs.Standing.{standing}
 use Rattle.cmm_top.specs.Executing.{CannotRun}
-use Rattle.cmm_top.specs.Script.{named_file}
-use Rattle.cmm_top.specs.declared.ending.Ending.{Ending}
-use Rattle.cmm_top.specs.declared.reading.FileBytes.{FileBytes}
+use Rattle.cmm_work.specs.Script.{named_file}
+use Rattle.cmm_work.specs.declared.ending.Ending.{Ending}
+use Rattle.cmm_work.specs.declared.reading.FileBytes.{FileBytes}
 use Rattle.cmm_top.specs.declared.sources.Sources.{Sources}
-use Rattle.cmm_top.specs.inside.Ending.{work_of}
-use Rattle.cmm_top.specs.inside.Reading.{AreUnits, IsClientRead}
-use Rattle.cmm_top.proofs.FilesRead.{same_outside, units_so}
-use Rattle.cmm_top.proofs.Preparing.{fails_before, fails_behind, handed, no_image, no_script_in, unread}
-use Rattle.cmm_top.proofs.ReadsMade.{read_all, read_first, read_part}
-use Rattle.cmm_top.specs.Reads.{script_in, units_in}
+use Rattle.cmm_work.specs.Ending.{work_of}
+use Rattle.cmm_top.specs.inside.Reading.{AreUnits}
+use Rattle.cmm_work.specs.Reading.{IsClientRead}
+use Rattle.cmm_work.proofs.Shared.{same_outside, fails_before, fails_behind, handed, no_script_in, unread, read_all, read_first, read_part}
+use Rattle.cmm_top.proofs.FilesRead.{units_so}
+use Rattle.cmm_top.proofs.Refusing.{no_image}
+use Rattle.cmm_work.specs.Reads.{script_in}
+use Rattle.cmm_top.specs.Reads.{units_in}
 use Rattle.cmm_top.proofs.executing.prepare.Goals as goal
 
 pub returns-in_err-sources-clause-err : goal.returns-in_err-sources-clause-err

@@ -2,7 +2,7 @@ use Rattle.std.proofs.Common.{◌≡◌, List, length, get_or, ap, ◌∙◌, ar
 use Rattle.std.specs.Prelude.{sum_by}
 use Rattle.std.proofs.lemmas.List.Sums.{sum_by_more, sum_by_more_le}
 use Rattle.cmm_program.specs.declared.procedure.Proc.{Proc}
-use Rattle.cmm_top.specs.Lines.{site_count}
+use Rattle.cmm_top.specs.Counts.{site_count}
 use Rattle.cmm_top.proofs.generating.count_sites.Goals as goal
 
 pub overflow_add-count : goal.overflow_add-count

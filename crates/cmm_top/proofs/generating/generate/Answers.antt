@@ -1,15 +1,14 @@
-use Rattle.std.proofs.Common.{◌≡◌, ℕ, List, [], Some, ap, inl, inr, refl, subst, sym, ◌∙◌}
-use Rattle.cmm_compile.specs.Agreement.{launch_of}
-use Rattle.cmm_image_machine.specs.Machine.{Launch}
+use Rattle.std.proofs.Common.{◌≡◌, ℕ, List, Some, ap, inl, inr, refl, subst, ◌∙◌}
+use Rattle.cmm_image_machine.specs.Machine.{launch_of, Launch}
 use Rattle.cmm_run.specs.Outside.{outside_of}
 use Rattle.cmm_run.specs.Runs.{Runs}
 use Rattle.cmm_run.specs.Sessions.{machine_of}
 use Rattle.cmm_script.specs.declared.script.Block.{Block}
-use Rattle.cmm_top.specs.Call.{Outside}
+use Rattle.cmm_work.specs.Standing.{Outside}
 use Rattle.cmm_top.specs.Generating.{usual_limits}
-use Rattle.cmm_top.specs.Work.{no_script}
+use Rattle.cmm_work.specs.Work.{no_script}
 use Rattle.cmm_top.proofs.Counting.{sites_are_few}
-use Rattle.cmm_top.proofs.Refusing.{ran_out}
+use Rattle.cmm_work.proofs.Shared.{ran_out}
 use Rattle.cmm_top.proofs.generating.generate.Goals as goal
 
 pub returns-in-Err : goal.returns-in-Err

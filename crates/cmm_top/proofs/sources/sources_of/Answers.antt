@@ -2,11 +2,13 @@ use Rattle.std.specs.Prelude.{slice_index_or}
 use Rattle.std.proofs.lemmas.List.{map_more}
 use Rattle.std.proofs.Common.{ℕ, [], ◌∷◌, ◌+◌, Bor, List, drop, map, take, subst, sym, ◌∙◌}
 use Rattle.cmm_lexer.specs.declared.tokens.TheConstants.{UNIT_LIMIT}
-use Rattle.cmm_top.specs.Files.{HasBytes}
-use Rattle.cmm_top.specs.inside.Reading.{AreRead, IsFileOf}
+use Rattle.cmm_work.specs.Files.{HasBytes}
+use Rattle.cmm_top.specs.inside.Reading.{AreRead}
+use Rattle.cmm_work.specs.Reading.{IsFileOf}
 use Rattle.cmm_top.proofs.FilesRead.{more_read}
 use Rattle.cmm_outside.specs.Reads.{AreReadWhole, Made}
-use Rattle.cmm_top.proofs.ReadsMade.{in_order_for, names_split, read_whole, unit_in_vain, unit_read}
+use Rattle.cmm_work.proofs.Shared.{in_order_for, read_whole}
+use Rattle.cmm_top.proofs.ReadsMade.{names_split, unit_in_vain, unit_read}
 use Rattle.cmm_top.specs.Reads.{units_in}
 use Rattle.cmm_top.proofs.sources.sources_of.Goals as goal
 

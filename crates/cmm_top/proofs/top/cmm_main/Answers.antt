@@ -1,7 +1,7 @@
 use Rattle.std.proofs.Common.{refl}
 use Rattle.cmm_run.specs.Outside.{outside_of}
-use Rattle.cmm_top.specs.Call.{Outside, standing}
-use Rattle.cmm_top.specs.inside.Ending.{line_of, status_at}
+use Rattle.cmm_work.specs.Standing.{Outside, standing}
+use Rattle.cmm_work.specs.Ending.{line_of, status_at}
 use Rattle.cmm_top.proofs.Closing.{closes}
 use Rattle.cmm_top.proofs.top.cmm_main.Goals as goal
 

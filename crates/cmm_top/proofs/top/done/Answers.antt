@@ -4,14 +4,15 @@ use Rattle.std.specs.Option.{option_map}
 use Rattle.cmm_outside.specs.declared.storage.TheConstants.{NAME_LIMIT}
 use Rattle.cmm_run.specs.Outside.{outside_of}
 use Rattle.cmm_top.specs.Answers.{Does}
-use Rattle.cmm_top.specs.Call.{standing}
+use Rattle.cmm_work.specs.Standing.{standing}
 use Rattle.cmm_top.specs.declared.task.Task.{Task}
-use Rattle.cmm_top.specs.inside.Ending.{work_of}
+use Rattle.cmm_work.specs.Ending.{work_of}
 use Rattle.cmm_top.specs.inside.Tasks.{CanBeDone, plain_task}
 use Rattle.cmm_top.proofs.Asked.{short_name, short_names}
 use Rattle.cmm_outside.specs.Reads.{AreReadInOrder, Made}
-use Rattle.cmm_top.proofs.ReadsMade.{read_none}
-use Rattle.cmm_top.specs.Reads.{read_for, script_in, units_in}
+use Rattle.cmm_work.proofs.Shared.{read_none}
+use Rattle.cmm_top.specs.Reads.{read_for, units_in}
+use Rattle.cmm_work.specs.Reads.{script_in}
 use Rattle.cmm_top.proofs.top.done.Goals as goal
 
 pub exec-requires-clause-short : goal.exec-requires-clause-short

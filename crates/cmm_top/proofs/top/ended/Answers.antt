@@ -4,7 +4,7 @@ use Rattle.cmm_top.specs.Words.{Task, task_in, task_of, texts}
 use Rattle.cmm_top.specs.inside.Tasks.{plain_task}
 use Rattle.cmm_top.proofs.Asked.{asked_is, can_be_done, task_is}
 use Rattle.cmm_outside.specs.Reads.{AreReadInOrder, Made, WantedFile}
-use Rattle.cmm_top.proofs.ReadsMade.{read_none}
+use Rattle.cmm_work.proofs.Shared.{read_none}
 use Rattle.cmm_top.specs.Reads.{read_by, read_for}
 use Rattle.cmm_top.proofs.top.ended.Goals as goal
 
