@@ -32,7 +32,7 @@ CRATES = {
     "cmm_image_machine": ["cmm_execution"],
     "cmm_simulation": ["cmm_following"],
     "cmm_digraph": ["cmm_peeling", "cmm_cycles"],
-    "cmm_grammar_laws": ["cmm_readers"],
+    "cmm_grammar": ["cmm_readers"],
     "front_rows": ["cmm_trees", "cmm_faults", "cmm_resolved", "parser_rows", "static_rows", "typing_rows"],
     "value_tests": ["command_tests", "middle_tests", "run_tests"],
     "part_rows": ["code_tests", "code_rows", "walk_rows"],

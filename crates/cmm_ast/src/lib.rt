@@ -1,4 +1,4 @@
-//! Syntax trees of C-- (C-- Language Specification 2.0, syntax). `cmm_grammar_laws` says which tokens a tree derives.
+//! Syntax trees of C-- (C-- Language Specification 2.0, syntax). `cmm_grammar` says which tokens a tree derives.
 //!
 //! A type whose values hold others, but none of its own, says in its `drop` how they are let go. So that is proved here alone: whoever lets one go above makes a
 //! call. Types that hold themselves derive it.

@@ -18,10 +18,10 @@ use Rattle.cmm_ast.specs.declared.statement.Part.TheVariants as parts
 use Rattle.cmm_ast.specs.declared.statement.StmtForm.{StmtForm, Row_of-Arm, end_of-Arm, more_of-Arm}
 use Rattle.cmm_ast.specs.declared.statement.StmtForm.TheVariants as stmts
 use Rattle.cmm_ast.specs.declared.unit.Unit.{Unit as UnitTree}
-use Rattle.cmm_grammar_laws.specs.Derivation.{Derives}
-use Rattle.cmm_grammar_laws.specs.Taking.{Reading, Takes, ◌⨾◌, token, is_name, keyword, here, opening, enclosed, round, braces, optional, may_list}
-use Rattle.cmm_grammar_laws.specs.ExpressionGrammar.{ident, whole, whole_prim}
-use Rattle.cmm_grammar_laws.specs.StatementGrammar.{formal, case, switch_span, local_form, stmt_form, otherwise_, chained, part_row, part_, arm_row, block, proc}
+use Rattle.cmm_grammar.specs.Derivation.{Derives}
+use Rattle.cmm_grammar.specs.Taking.{Reading, Takes, ◌⨾◌, token, is_name, keyword, here, opening, enclosed, round, braces, optional, may_list}
+use Rattle.cmm_grammar.specs.ExpressionGrammar.{ident, whole, whole_prim}
+use Rattle.cmm_grammar.specs.StatementGrammar.{formal, case, switch_span, local_form, stmt_form, otherwise_, chained, part_row, part_, arm_row, block, proc}
 use Rattle.cmm_program.specs.declared.statement.Statement.{Statement}
 use Rattle.cmm_program.specs.Numbering.{body_tokens}
 use Rattle.cmm_static_semantics.specs.Items.{SpanTree, Within, items_of, parts_inside, parts_otherwise, part_within, parts_row, parts_of_arms, parts_in, parts_of}

@@ -26,11 +26,11 @@ use Rattle.cmm_ast.specs.declared.unit.Item.TheVariants as items
 use Rattle.cmm_ast.specs.declared.unit.TopLevel.{TopLevel}
 use Rattle.cmm_ast.specs.declared.unit.TopLevel.TheVariants as tops
 use Rattle.cmm_ast.specs.declared.unit.Unit.{Unit as UnitTree}
-use Rattle.cmm_grammar_laws.specs.Derivation.{Derives, at_start}
-use Rattle.cmm_grammar_laws.specs.Taking.{Reading, Takes, ◌⨾◌, keyword, symbol, here, opening, enclosed, round, braces, optional, many, commas, listed, may_list}
-use Rattle.cmm_grammar_laws.specs.ExpressionGrammar.{ident, text, whole, whole_prim}
-use Rattle.cmm_grammar_laws.specs.StatementGrammar.{formal, lvalue, range, case, switch_span, stmt_form, otherwise_, chained, part_row, part_, arm_row, block, proc}
-use Rattle.cmm_grammar_laws.specs.UnitGrammar.{item, item_row, top_level}
+use Rattle.cmm_grammar.specs.Derivation.{Derives, at_start}
+use Rattle.cmm_grammar.specs.Taking.{Reading, Takes, ◌⨾◌, keyword, symbol, here, opening, enclosed, round, braces, optional, many, commas, listed, may_list}
+use Rattle.cmm_grammar.specs.ExpressionGrammar.{ident, text, whole, whole_prim}
+use Rattle.cmm_grammar.specs.StatementGrammar.{formal, lvalue, range, case, switch_span, stmt_form, otherwise_, chained, part_row, part_, arm_row, block, proc}
+use Rattle.cmm_grammar.specs.UnitGrammar.{item, item_row, top_level}
 use Rattle.cmm_static_semantics.specs.Items.{SpanTree, Within, item_within, items_within, top_items, items_of, parts_inside, parts_otherwise, part_within, parts_row, parts_of_arms, parts_in, parts_of}
 use Rattle.cmm_static_semantics.specs.Switches.{heads}
 use Rattle.cmm_static_semantics.proofs.Shared.{hidden_parts}

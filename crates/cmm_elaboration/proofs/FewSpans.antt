@@ -4,7 +4,7 @@ use Rattle.std.specs.Prelude.{map, flat_map, nat_lt, ◌==◌, All}
 use Rattle.std.proofs.lemmas.List.{length-map, length-append}
 use Rattle.std.proofs.lemmas.List.Elements.{All-nil, All-cons, All-append, All-head, All-tail}
 use Rattle.cmm_lexer.specs.declared.piece.Lexeme.{Lexeme}
-use Rattle.cmm_grammar_laws.specs.Derivation.{DerivesWithin}
+use Rattle.cmm_grammar.specs.Derivation.{DerivesWithin}
 use Rattle.cmm_ast.specs.declared.statement.Part.{Part}
 use Rattle.cmm_ast.specs.declared.statement.Part.TheVariants as parts
 use Rattle.cmm_ast.specs.declared.statement.StmtForm.{StmtForm}

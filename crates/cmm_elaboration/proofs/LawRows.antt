@@ -7,7 +7,7 @@ use Rattle.std.proofs.lemmas.Bool.{ltb-true}
 use Rattle.cmm_lexer.specs.declared.piece.Lexeme.{Lexeme}
 use Rattle.cmm_lexer.specs.Laws.{AreBytes}
 use Rattle.cmm_lexer.specs.Lexing.{tokens_of}
-use Rattle.cmm_grammar_laws.specs.Derivation.{Derives, DerivesWithin}
+use Rattle.cmm_grammar.specs.Derivation.{Derives, DerivesWithin}
 use Rattle.cmm_ast.specs.declared.unit.Unit.{Unit as UnitTree}
 use Rattle.cmm_program.specs.InRange.{below}
 use Rattle.cmm_static_semantics.specs.Faults.{AreAccepted}

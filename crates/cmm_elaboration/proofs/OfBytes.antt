@@ -25,10 +25,10 @@ use Rattle.cmm_ast.specs.declared.unit.Item.TheVariants as items
 use Rattle.cmm_ast.specs.declared.unit.TopLevel.{TopLevel}
 use Rattle.cmm_ast.specs.declared.unit.TopLevel.TheVariants as tops
 use Rattle.cmm_ast.specs.declared.unit.Unit.{Unit as UnitTree}
-use Rattle.cmm_grammar_laws.specs.Derivation.{Derives, at_start}
-use Rattle.cmm_grammar_laws.specs.Taking.{Reading, Takes, ◌⨾◌, token, is_text, keyword, symbol, here, opening, enclosed, braces, many}
-use Rattle.cmm_grammar_laws.specs.ExpressionGrammar.{text, type_name, whole, whole_prim}
-use Rattle.cmm_grammar_laws.specs.UnitGrammar.{count, initial, datum_form, item, item_row, top_level}
+use Rattle.cmm_grammar.specs.Derivation.{Derives, at_start}
+use Rattle.cmm_grammar.specs.Taking.{Reading, Takes, ◌⨾◌, token, is_text, keyword, symbol, here, opening, enclosed, braces, many}
+use Rattle.cmm_grammar.specs.ExpressionGrammar.{text, type_name, whole, whole_prim}
+use Rattle.cmm_grammar.specs.UnitGrammar.{count, initial, datum_form, item, item_row, top_level}
 use Rattle.cmm_program.specs.InRange.{below}
 use Rattle.cmm_static_semantics.specs.Items.{SpanTree, Within, item_within, items_within, top_items, items_of}
 use Rattle.cmm_static_semantics.specs.Declarations.{units_from, procs_in, labels_in, sum_of}

@@ -13,11 +13,11 @@ use Rattle.cmm_ast.specs.declared.statement.Otherwise.TheBlock as Otherwises
 use Rattle.cmm_ast.specs.declared.unit.Place.{Place}
 use Rattle.cmm_ast.specs.declared.unit.TopLevel.{TopLevel}
 use Rattle.cmm_ast.specs.declared.unit.Unit.{Unit as UnitTree}
-use Rattle.cmm_grammar_laws.specs.Derivation.{at_start}
-use Rattle.cmm_grammar_laws.specs.Reading.{Answer, Read, Stopped}
-use Rattle.cmm_grammar_laws.specs.ReadingLaws.{point}
-use Rattle.cmm_grammar_laws.specs.StatementReading.{block}
-use Rattle.cmm_grammar_laws.specs.UnitReading.{parts}
+use Rattle.cmm_grammar.specs.Derivation.{at_start}
+use Rattle.cmm_grammar.specs.Reading.{Answer, Read, Stopped}
+use Rattle.cmm_grammar.specs.ReadingLaws.{point}
+use Rattle.cmm_grammar.specs.StatementReading.{block}
+use Rattle.cmm_grammar.specs.UnitReading.{parts}
 use Rattle.cmm_program.specs.declared.expression.Expression.TheBlock as Expressions
 use Rattle.cmm_program.specs.declared.expression.Condition.TheBlock as Conditions
 use Rattle.cmm_rules.specs.declared.rule.Rule.{Rule}

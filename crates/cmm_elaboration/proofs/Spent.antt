@@ -36,8 +36,8 @@ use Rattle.cmm_ast.specs.declared.expression.PrimForm.TheVariants.{Literal, Name
 use Rattle.cmm_ast.specs.declared.expression.TypeForm.{TypeForm}
 use Rattle.cmm_ast.specs.declared.expression.TypeForm.TheVariants.{Bits as OfBits, Named as OfName}
 use Rattle.cmm_ast.specs.declared.expression.TypeName.{TypeName}
-use Rattle.cmm_grammar_laws.specs.Taking.{Reading, Takes, ◌⨾◌, token, token as token_, is_name, is_operator, is_int, is_char, is_word, is_sign, keyword, symbol, here, first_over, opening, operator, in_brackets, round, square, optional, may_comma}
-use Rattle.cmm_grammar_laws.specs.ExpressionGrammar.{width_word, infix_symbol, prefix_symbol, unary_level, left_level, right_level, int, type_form, type_name, number_of, aligned_by, level_of, binds, expr_form, operand as operand_of, operand_list, more_operands, prim_form, memory, whole, whole_prim, whole_memory}
+use Rattle.cmm_grammar.specs.Taking.{Reading, Takes, ◌⨾◌, token, token as token_, is_name, is_operator, is_int, is_char, is_word, is_sign, keyword, symbol, here, first_over, opening, operator, in_brackets, round, square, optional, may_comma}
+use Rattle.cmm_grammar.specs.ExpressionGrammar.{width_word, infix_symbol, prefix_symbol, unary_level, left_level, right_level, int, type_form, type_name, number_of, aligned_by, level_of, binds, expr_form, operand as operand_of, operand_list, more_operands, prim_form, memory, whole, whole_prim, whole_memory}
 use Rattle.cmm_program.specs.declared.expression.Expression.{Expression}
 use Rattle.cmm_program.specs.declared.expression.Expression.TheVariants.{Known, Variable, Register, Stackdata, Continuation, Load', Unary', Binary', SignExtend', ZeroExtend', LowBits'}
 use Rattle.cmm_program.specs.declared.expression.Expression.TheVariants as x

@@ -13,8 +13,8 @@ use Rattle.cmm_ast.specs.declared.statement.StmtForm.TheVariants as stmts
 use Rattle.cmm_ast.specs.declared.unit.Item.{Item}
 use Rattle.cmm_ast.specs.declared.unit.Item.TheVariants as items
 use Rattle.cmm_ast.specs.declared.unit.Unit.{Unit as UnitTree}
-use Rattle.cmm_grammar_laws.specs.Taking.{Reading}
-use Rattle.cmm_grammar_laws.specs.StatementGrammar.{stmt_form, chained, proc}
+use Rattle.cmm_grammar.specs.Taking.{Reading}
+use Rattle.cmm_grammar.specs.StatementGrammar.{stmt_form, chained, proc}
 use Rattle.cmm_program.specs.declared.procedure.Cont.{Cont}
 use Rattle.cmm_program.specs.declared.procedure.Proc.{Proc}
 use Rattle.cmm_program.specs.declared.procedure.Site.{Site}

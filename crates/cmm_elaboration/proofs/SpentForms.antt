@@ -20,9 +20,9 @@ use Rattle.cmm_ast.specs.declared.statement.FlowForm.TheVariants as flows
 use Rattle.cmm_ast.specs.declared.statement.Kinded.{Kinded}
 use Rattle.cmm_ast.specs.declared.statement.Lvalue.{Lvalue as LvalueTree}
 use Rattle.cmm_ast.specs.declared.statement.Lvalue.TheVariants as lvalues
-use Rattle.cmm_grammar_laws.specs.Taking.{Reading, Takes, ◌⨾◌, token, is_name, is_text, is_word, is_sign, keyword, symbol, here, optional, commas, listed, may_list, may_comma}
-use Rattle.cmm_grammar_laws.specs.ExpressionGrammar.{ident, text, whole, whole_prim}
-use Rattle.cmm_grammar_laws.specs.StatementGrammar.{kinded, actual, arguments, lvalue, callee_form, callee, names_to, flow_form, annotated, exit, results}
+use Rattle.cmm_grammar.specs.Taking.{Reading, Takes, ◌⨾◌, token, is_name, is_text, is_word, is_sign, keyword, symbol, here, optional, commas, listed, may_list, may_comma}
+use Rattle.cmm_grammar.specs.ExpressionGrammar.{ident, text, whole, whole_prim}
+use Rattle.cmm_grammar.specs.StatementGrammar.{kinded, actual, arguments, lvalue, callee_form, callee, names_to, flow_form, annotated, exit, results}
 use Rattle.cmm_program.specs.ExpressionTokens.{alone, callee as callee_level, expression_tokens}
 use Rattle.cmm_program.specs.Tokens.{with_commas, names as name_tokens, bracketed, lvalue_tokens, annotation, when, result_tokens}
 use Rattle.cmm_static_semantics.specs.Senses.{Senses}

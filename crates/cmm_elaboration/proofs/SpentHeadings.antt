@@ -16,9 +16,9 @@ use Rattle.cmm_ast.specs.declared.procedure.Modifiers.TheVariants as before
 use Rattle.cmm_ast.specs.declared.procedure.Room.{Room}
 use Rattle.cmm_ast.specs.declared.procedure.RoomForm.{RoomForm}
 use Rattle.cmm_ast.specs.declared.procedure.RoomForm.TheVariants as rooms
-use Rattle.cmm_grammar_laws.specs.Taking.{Reading, ◌⨾◌, is_word, is_sign, keyword, symbol, here, braces, square, many, listed}
-use Rattle.cmm_grammar_laws.specs.ExpressionGrammar.{ident, text, int, type_name, whole}
-use Rattle.cmm_grammar_laws.specs.StatementGrammar.{modifiers, formal, room_form, local_form}
+use Rattle.cmm_grammar.specs.Taking.{Reading, ◌⨾◌, is_word, is_sign, keyword, symbol, here, braces, square, many, listed}
+use Rattle.cmm_grammar.specs.ExpressionGrammar.{ident, text, int, type_name, whole}
+use Rattle.cmm_grammar.specs.StatementGrammar.{modifiers, formal, room_form, local_form}
 use Rattle.cmm_program.specs.declared.procedure.StackItem.{StackItem}
 use Rattle.cmm_program.specs.declared.procedure.VarInfo.{VarInfo}
 use Rattle.cmm_program.specs.Tokens.{names as name_tokens, when, before_name, declared_alike, local_tokens, item_tokens, stackdata_tokens}

@@ -11,9 +11,9 @@ use Rattle.cmm_ast.specs.declared.procedure.Proc.{Proc as ProcTree}
 use Rattle.cmm_ast.specs.declared.statement.Otherwise.TheBlock as OtherwiseForms
 use Rattle.cmm_ast.specs.declared.statement.Part.{Part}
 use Rattle.cmm_ast.specs.declared.statement.Part.TheVariants as parts
-use Rattle.cmm_grammar_laws.specs.Taking.{Reading, ◌⨾◌, token, is_name, here, round, may_list}
-use Rattle.cmm_grammar_laws.specs.ExpressionGrammar.{ident}
-use Rattle.cmm_grammar_laws.specs.StatementGrammar.{formal, part_row, block, proc}
+use Rattle.cmm_grammar.specs.Taking.{Reading, ◌⨾◌, token, is_name, here, round, may_list}
+use Rattle.cmm_grammar.specs.ExpressionGrammar.{ident}
+use Rattle.cmm_grammar.specs.StatementGrammar.{formal, part_row, block, proc}
 use Rattle.cmm_program.specs.declared.procedure.Proc.{Proc}
 use Rattle.cmm_program.specs.declared.procedure.VarInfo.{VarInfo}
 use Rattle.cmm_program.specs.declared.statement.Statement.{Statement}

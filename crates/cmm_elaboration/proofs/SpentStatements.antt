@@ -24,9 +24,9 @@ use Rattle.cmm_ast.specs.declared.statement.Otherwise.{Otherwise, more_of-Stmt}
 use Rattle.cmm_ast.specs.declared.statement.Otherwise.TheVariants.{Nothing as NoElse, Else', ElseIf'}
 use Rattle.cmm_ast.specs.declared.statement.StmtForm.{StmtForm, Row_of-Arm, end_of-Arm, more_of-Arm}
 use Rattle.cmm_ast.specs.declared.statement.StmtForm.TheVariants as stmts
-use Rattle.cmm_grammar_laws.specs.Taking.{Reading, Takes, ◌⨾◌, token, is_word, is_sign, is_checked, keyword, symbol, here, nothing, opening, enclosed, round, braces, optional, commas, listed, may_list}
-use Rattle.cmm_grammar_laws.specs.ExpressionGrammar.{ident, text, whole, whole_prim}
-use Rattle.cmm_grammar_laws.specs.StatementGrammar.{kinded, arguments, lvalue, callee, annotated, exit, results, range, case, switch_span, checked, stmt_form, otherwise_, chained, part_row, arm_row}
+use Rattle.cmm_grammar.specs.Taking.{Reading, Takes, ◌⨾◌, token, is_word, is_sign, is_checked, keyword, symbol, here, nothing, opening, enclosed, round, braces, optional, commas, listed, may_list}
+use Rattle.cmm_grammar.specs.ExpressionGrammar.{ident, text, whole, whole_prim}
+use Rattle.cmm_grammar.specs.StatementGrammar.{kinded, arguments, lvalue, callee, annotated, exit, results, range, case, switch_span, checked, stmt_form, otherwise_, chained, part_row, arm_row}
 use Rattle.cmm_program.specs.declared.expression.Expression.{Expression}
 use Rattle.cmm_program.specs.declared.expression.Condition.{Condition}
 use Rattle.cmm_program.specs.declared.procedure.Proc.{Proc}

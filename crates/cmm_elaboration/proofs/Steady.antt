@@ -23,8 +23,8 @@ use Rattle.cmm_ast.specs.declared.expression.PrimForm.TheVariants.{Literal, Name
 use Rattle.cmm_ast.specs.declared.expression.TypeForm.{TypeForm}
 use Rattle.cmm_ast.specs.declared.expression.TypeForm.TheVariants.{Bits, Named as OfName}
 use Rattle.cmm_ast.specs.declared.expression.TypeName.{TypeName}
-use Rattle.cmm_grammar_laws.specs.Taking.{Reading, Takes, ◌⨾◌, token, is_name, is_text, is_operator, is_int, is_char, is_word, is_sign, keyword, symbol, here, nothing, first_over, opening, enclosed, operator, outermost, in_brackets, round, square, braces, optional, many, commas, may_comma, listed, may_list}
-use Rattle.cmm_grammar_laws.specs.ExpressionGrammar.{width_word, infix_symbol, prefix_symbol, unary_level, left_level, right_level, ident, text, int, type_form, type_name, number_of, aligned_by, level_of, binds, expr_form, operand, operand_list, more_operands, prim_form, memory, expr, prim, whole, whole_prim, whole_memory}
+use Rattle.cmm_grammar.specs.Taking.{Reading, Takes, ◌⨾◌, token, is_name, is_text, is_operator, is_int, is_char, is_word, is_sign, keyword, symbol, here, nothing, first_over, opening, enclosed, operator, outermost, in_brackets, round, square, braces, optional, many, commas, may_comma, listed, may_list}
+use Rattle.cmm_grammar.specs.ExpressionGrammar.{width_word, infix_symbol, prefix_symbol, unary_level, left_level, right_level, ident, text, int, type_form, type_name, number_of, aligned_by, level_of, binds, expr_form, operand, operand_list, more_operands, prim_form, memory, expr, prim, whole, whole_prim, whole_memory}
 use Rattle.cmm_elaboration.proofs.Derived.{middle}
 
 -- from one reading to another, n tokens were taken from the front, and what is left is the end of what was; no bracket is closed that was

@@ -55,10 +55,10 @@ use Rattle.cmm_ast.specs.declared.unit.Item.TheVariants as items
 use Rattle.cmm_ast.specs.declared.unit.TopLevel.{TopLevel}
 use Rattle.cmm_ast.specs.declared.unit.TopLevel.TheVariants as tops
 use Rattle.cmm_ast.specs.declared.unit.Unit.{Unit as UnitTree}
-use Rattle.cmm_grammar_laws.specs.Taking.{Takes, ◌⨾◌, token, is_checked, keyword, symbol, here, nothing, opening, enclosed, round, square, braces, optional, many, commas, listed, may_list, may_comma}
-use Rattle.cmm_grammar_laws.specs.ExpressionGrammar.{ident, text, int, type_name, whole, whole_prim}
-use Rattle.cmm_grammar_laws.specs.StatementGrammar.{modifiers, formal, room_form, local_form, kinded, actual, arguments, lvalue, callee_form, callee, names_to, flow_form, annotated, exit, results, range, case, switch_span, checked, stmt_form, otherwise_, chained, part_row, part_, arm_row, inside, block, proc}
-use Rattle.cmm_grammar_laws.specs.UnitGrammar.{import_name, export_name, byte_order, property_form, if_invariant, decl_form, decl, count, initial, datum_form, item, item_row, top_level, unit}
+use Rattle.cmm_grammar.specs.Taking.{Takes, ◌⨾◌, token, is_checked, keyword, symbol, here, nothing, opening, enclosed, round, square, braces, optional, many, commas, listed, may_list, may_comma}
+use Rattle.cmm_grammar.specs.ExpressionGrammar.{ident, text, int, type_name, whole, whole_prim}
+use Rattle.cmm_grammar.specs.StatementGrammar.{modifiers, formal, room_form, local_form, kinded, actual, arguments, lvalue, callee_form, callee, names_to, flow_form, annotated, exit, results, range, case, switch_span, checked, stmt_form, otherwise_, chained, part_row, part_, arm_row, inside, block, proc}
+use Rattle.cmm_grammar.specs.UnitGrammar.{import_name, export_name, byte_order, property_form, if_invariant, decl_form, decl, count, initial, datum_form, item, item_row, top_level, unit}
 use Rattle.cmm_elaboration.proofs.Steady.{IsSteady, steady_then, steady_nothing, steady_token, steady_here, steady_keyword, steady_symbol, steady_opening, steady_enclosed, steady_outermost, steady_round, steady_square, steady_braces, steady_optional, steady_many, steady_commas, steady_comma, steady_listed, steady_list, steady_ident, steady_text, steady_int, steady_type, steady_whole, steady_primary, steady_place}
 
 steady_modifiers : (m : Modifiers) → IsSteady (modifiers m)

@@ -21,11 +21,11 @@ use Rattle.cmm_ast.specs.declared.unit.Item.TheVariants as items
 use Rattle.cmm_ast.specs.declared.unit.TopLevel.{TopLevel}
 use Rattle.cmm_ast.specs.declared.unit.TopLevel.TheVariants as tops
 use Rattle.cmm_ast.specs.declared.unit.Unit.{Unit as UnitTree}
-use Rattle.cmm_grammar_laws.specs.Derivation.{Derives, at_start}
-use Rattle.cmm_grammar_laws.specs.Taking.{Reading, Takes, ◌⨾◌, token, is_name, keyword, symbol, here, opening, round, braces, optional, many, commas, listed, may_comma, may_list}
-use Rattle.cmm_grammar_laws.specs.ExpressionGrammar.{ident, text, int, type_name, whole, whole_prim}
-use Rattle.cmm_grammar_laws.specs.StatementGrammar.{formal, block, proc}
-use Rattle.cmm_grammar_laws.specs.UnitGrammar.{count, decl, decl_form, export_name, initial, datum_form, item, item_row, top_level}
+use Rattle.cmm_grammar.specs.Derivation.{Derives, at_start}
+use Rattle.cmm_grammar.specs.Taking.{Reading, Takes, ◌⨾◌, token, is_name, keyword, symbol, here, opening, round, braces, optional, many, commas, listed, may_comma, may_list}
+use Rattle.cmm_grammar.specs.ExpressionGrammar.{ident, text, int, type_name, whole, whole_prim}
+use Rattle.cmm_grammar.specs.StatementGrammar.{formal, block, proc}
+use Rattle.cmm_grammar.specs.UnitGrammar.{count, decl, decl_form, export_name, initial, datum_form, item, item_row, top_level}
 use Rattle.cmm_static_semantics.specs.Faults.{AreAccepted}
 use Rattle.cmm_static_semantics.specs.Items.{SpanTree, Within, item_within, items_within, top_items, items_of}
 use Rattle.cmm_static_semantics.specs.Declarations.{NamedUnit, named_units, units_from, procs_in, labels_in, sum_of}

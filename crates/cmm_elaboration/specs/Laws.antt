@@ -8,7 +8,7 @@ use Rattle.std.specs.Option.{is_some}
 use Rattle.cmm_lexer.specs.declared.piece.Lexeme.{Lexeme}
 use Rattle.cmm_lexer.specs.Laws.{AreBytes, IsOfBytes}
 use Rattle.cmm_lexer.specs.Lexing.{tokens_of}
-use Rattle.cmm_grammar_laws.specs.Derivation.{Derives, DerivesWithin}
+use Rattle.cmm_grammar.specs.Derivation.{Derives, DerivesWithin}
 use Rattle.cmm_ast.specs.declared.unit.Unit.{Unit as UnitTree}
 use Rattle.cmm_words.specs.declared.width.Width.{Width}
 use Rattle.cmm_program.specs.declared.procedure.Proc.{Proc}

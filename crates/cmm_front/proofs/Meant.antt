@@ -4,7 +4,7 @@ use Rattle.std.specs.List.{All, AllZip}
 use Rattle.std.proofs.lemmas.List.{length-append, length-map}
 use Rattle.std.proofs.lemmas.List.Elements.{All-cons, All-head, All-nil, All-tail}
 use Rattle.cmm_lexer.specs.declared.piece.Lexeme.{Lexeme}
-use Rattle.cmm_grammar_laws.specs.Derivation.{DerivesWithin}
+use Rattle.cmm_grammar.specs.Derivation.{DerivesWithin}
 use Rattle.cmm_ast.specs.declared.unit.Unit.{Unit as UnitTree}
 use Rattle.cmm_lexer.specs.Laws.{AreBytes}
 use Rattle.cmm_lexer.specs.Lexing.{tokens_of}

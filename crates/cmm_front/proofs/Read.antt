@@ -10,7 +10,7 @@ use Rattle.cmm_lexer.specs.declared.tokens.TheConstants.{UNIT_LIMIT}
 use Rattle.cmm_static_semantics.specs.declared.fault.Fault.{Fault}
 use Rattle.cmm_ast.specs.declared.unit.Place.{Place}
 use Rattle.cmm_ast.specs.declared.unit.Unit.{Unit as UnitTree}
-use Rattle.cmm_grammar_laws.specs.Derivation.{DerivesWithin}
+use Rattle.cmm_grammar.specs.Derivation.{DerivesWithin}
 use Rattle.cmm_lexer.specs.declared.token.Token.{Token}
 use Rattle.cmm_lexer.specs.declared.tokens.Tokens.{Tokens}
 use Rattle.cmm_lexer.specs.Lexing.{Lexes, faults_of, Spelled, lexeme_of, spelled, tokens_of}

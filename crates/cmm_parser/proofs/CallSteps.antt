@@ -1,11 +1,11 @@
 -- Steps of the readers of calls and statements: a token's number, a word for bits, steps grouped the other way, and parts by their first token.
 use Rattle.std.proofs.Common.{◌≡◌, refl, subst, ℕ, Bool, true, Some, Result, Ok, arith}
 use Rattle.cmm_ast.specs.declared.expression.TypeName.{TypeName}
-use Rattle.cmm_grammar_laws.specs.Reading.{Point, Answer, Read, Stopped, Reads, ◌>>=◌, and_then, if_next, here}
-use Rattle.cmm_grammar_laws.specs.ExpressionReading.{type_name}
-use Rattle.cmm_grammar_laws.specs.PartReading.{is_width}
+use Rattle.cmm_grammar.specs.Reading.{Point, Answer, Read, Stopped, Reads, ◌>>=◌, and_then, if_next, here}
+use Rattle.cmm_grammar.specs.ExpressionReading.{type_name}
+use Rattle.cmm_grammar.specs.PartReading.{is_width}
 use Rattle.cmm_parser.specs.declared.fault.Stop.{Stop}
-use Rattle.cmm_grammar_laws.specs.StatementReading.{flat_by, of_stmt, symbol_stmt}
+use Rattle.cmm_grammar.specs.StatementReading.{flat_by, of_stmt, symbol_stmt}
 use Rattle.cmm_lexer.specs.declared.token.TokenKind.{TokenKind}
 use Rattle.cmm_lexer.specs.declared.tokens.Tokens.{Tokens}
 use Rattle.cmm_parser.specs.inside.Parsing.{Answered, Parsed, Takes, Bits}

@@ -2,13 +2,13 @@
 use Rattle.std.proofs.Common.{◌≡◌, subst, ℕ, zero, suc, pred, ◌<◌, Bool, true, false, IsTrue, IsFalse, length, Option, Some, None, MatchOption, Result, Ok, refl, arith}
 use Rattle.cmm_lexer.specs.declared.piece.Lexeme.{Lexeme}
 use Rattle.cmm_ast.specs.declared.expression.TypeName.{TypeName}
-use Rattle.cmm_grammar_laws.specs.Reading.{Point, Reads, ◌>>=◌, if_next, skip, give, here}
-use Rattle.cmm_grammar_laws.specs.ExpressionReading.{type_name}
-use Rattle.cmm_grammar_laws.specs.PartReading.{is_width}
-use Rattle.cmm_grammar_laws.specs.DeclarationReading.{bits}
-use Rattle.cmm_grammar_laws.specs.StatementReading.{block}
-use Rattle.cmm_grammar_laws.specs.UnitReading.{span, item, flat_item}
-use Rattle.cmm_grammar_laws.specs.Taking.{is_word}
+use Rattle.cmm_grammar.specs.Reading.{Point, Reads, ◌>>=◌, if_next, skip, give, here}
+use Rattle.cmm_grammar.specs.ExpressionReading.{type_name}
+use Rattle.cmm_grammar.specs.PartReading.{is_width}
+use Rattle.cmm_grammar.specs.DeclarationReading.{bits}
+use Rattle.cmm_grammar.specs.StatementReading.{block}
+use Rattle.cmm_grammar.specs.UnitReading.{span, item, flat_item}
+use Rattle.cmm_grammar.specs.Taking.{is_word}
 use Rattle.cmm_lexer.specs.declared.keyword.Keyword.TheVariants.{Span as SpanWord}
 use Rattle.cmm_ast.specs.declared.unit.Item.{Item}
 use Rattle.cmm_parser.specs.declared.fault.Stop.{Stop}

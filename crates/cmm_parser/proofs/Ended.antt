@@ -1,7 +1,7 @@
 -- Statements that end with a semicolon, which is taken with their last part.
 use Rattle.std.proofs.Common.{◌≡◌, ◌∙◌, sym, ap, refl, subst, ℕ, Bool, true, Ok, Err}
 use Rattle.cmm_lexer.specs.declared.symbol.Symbol.TheVariants.{Semicolon}
-use Rattle.cmm_grammar_laws.specs.Reading.{Point, Answer, Read, Stopped, Reads, ◌>>=◌, and_then, give, symbol}
+use Rattle.cmm_grammar.specs.Reading.{Point, Answer, Read, Stopped, Reads, ◌>>=◌, and_then, give, symbol}
 use Rattle.cmm_parser.specs.declared.fault.Stop.{Stop}
 use Rattle.cmm_parser.specs.inside.Ended.{ended}
 use Rattle.cmm_parser.specs.inside.Parsing.{Answered, Parsed}

@@ -3,9 +3,9 @@ use Rattle.std.proofs.Common.{◌≡◌, ◌∙◌, sym, ap, refl, subst, ℕ, z
 use Rattle.cmm_ast.specs.declared.expression.Expr.{Expr}
 use Rattle.cmm_ast.specs.declared.expression.ExprForm.{ExprForm}
 use Rattle.cmm_ast.specs.declared.expression.Infix.{Infix}
-use Rattle.cmm_grammar_laws.specs.ExpressionGrammar.{right_level}
-use Rattle.cmm_grammar_laws.specs.Reading.{Point, Answer, Read, Stopped, Reads, next, ◌>>=◌, give, look, listed, round, and_then, skip_operator}
-use Rattle.cmm_grammar_laws.specs.ExpressionReading.{begins_expression, operand, unary_by, named, operator_by, literal, prim_by, climb, infix_next, joined}
+use Rattle.cmm_grammar.specs.ExpressionGrammar.{right_level}
+use Rattle.cmm_grammar.specs.Reading.{Point, Answer, Read, Stopped, Reads, next, ◌>>=◌, give, look, listed, round, and_then, skip_operator}
+use Rattle.cmm_grammar.specs.ExpressionReading.{begins_expression, operand, unary_by, named, operator_by, literal, prim_by, climb, infix_next, joined}
 use Rattle.cmm_lexer.specs.declared.piece.Lexeme.TheVariants as l
 use Rattle.cmm_ast.specs.declared.expression.ExprForm.TheVariants.{Named, Prim}
 use Rattle.cmm_lexer.specs.declared.token.TokenKind.{TokenKind}

@@ -1,7 +1,7 @@
 -- How far a loop has come: what its reader answers from the start is what the rest of the reader answers from there.
 use Rattle.std.proofs.Common.{◌≡◌, ◌∙◌, sym, ap, subst, ℕ, zero, suc, ◌<◌, ◌≤◌, Bool, true, false, List, [], ◌∷◌, ◌++◌, length, Result, Ok, Err, arith}
 use Rattle.cmm_lexer.specs.declared.piece.Lexeme.{Lexeme}
-use Rattle.cmm_grammar_laws.specs.Reading.{Point, Answer, Read, Reads, next, past, passes, and_then, choice, many, more_commas, more_listed, is_comma}
+use Rattle.cmm_grammar.specs.Reading.{Point, Answer, Read, Reads, next, past, passes, and_then, choice, many, more_commas, more_listed, is_comma}
 use Rattle.cmm_parser.specs.declared.fault.Stop.{Stop}
 use Rattle.cmm_parser.specs.inside.Parsing.{Answered, Fewer, Parsed, Takes, Skips, Stays, skipped}
 use Rattle.cmm_parser.proofs.Steps.{stop_first, at_most}

@@ -10,8 +10,8 @@ use Rattle.cmm_lexer.specs.declared.piece.Lexeme.TheVariants as l
 use Rattle.cmm_lexer.specs.Spellings.{keyword_number, symbol_number}
 use Rattle.cmm_lexer.proofs.Shared.{keyword_number-injective, symbol_number-injective}
 use Rattle.cmm_ast.specs.declared.expression.ExprForm.{ExprForm}
-use Rattle.cmm_grammar_laws.specs.Taking.{is_word, is_sign}
-use Rattle.cmm_grammar_laws.specs.ExpressionReading.{infix_next}
+use Rattle.cmm_grammar.specs.Taking.{is_word, is_sign}
+use Rattle.cmm_grammar.specs.ExpressionReading.{infix_next}
 use Rattle.cmm_parser.specs.inside.Parsing.{NoWord, NoSymbol, width_next, prefix_next}
 
 -- ---- what no word and no symbol stands for

@@ -3,11 +3,11 @@ use Rattle.std.proofs.Common.{◌≡◌, refl, suc, List, length, inl, inr, Resu
 use Rattle.cmm_lexer.specs.declared.piece.Lexeme.{Lexeme}
 use Rattle.cmm_ast.specs.declared.unit.Unit.{Unit as UnitTree}
 use Rattle.cmm_ast.specs.declared.unit.TopLevel.{TopLevel}
-use Rattle.cmm_grammar_laws.specs.Derivation.{DerivesWithin, at_start}
-use Rattle.cmm_grammar_laws.specs.Reading.{Point}
-use Rattle.cmm_grammar_laws.specs.ReadingLaws.{point}
-use Rattle.cmm_grammar_laws.specs.UnitLaws.{whole_unit}
-use Rattle.cmm_grammar_laws.proofs.Shared.{is_too_deep, is_unexpected, read_is_unit}
+use Rattle.cmm_grammar.specs.Derivation.{DerivesWithin, at_start}
+use Rattle.cmm_grammar.specs.Reading.{Point}
+use Rattle.cmm_grammar.specs.ReadingLaws.{point}
+use Rattle.cmm_grammar.specs.UnitLaws.{whole_unit}
+use Rattle.cmm_grammar.proofs.Shared.{is_too_deep, is_unexpected, read_is_unit}
 use Rattle.cmm_parser.specs.declared.fault.SyntaxFault.{SyntaxFault}
 use Rattle.cmm_parser.specs.declared.fault.Stop.{Stop}
 use Rattle.cmm_parser.specs.declared.fault.Stop.TheVariants as stop

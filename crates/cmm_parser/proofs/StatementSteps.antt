@@ -4,9 +4,9 @@ use Rattle.cmm_lexer.specs.declared.symbol.Symbol.TheVariants.{OpenBrace, CloseB
 use Rattle.cmm_ast.specs.declared.statement.Block.{Block}
 use Rattle.cmm_ast.specs.declared.statement.Otherwise.{Otherwise}
 use Rattle.cmm_ast.specs.declared.statement.Part.{Part}
-use Rattle.cmm_grammar_laws.specs.Reading.{Point, Read, Reads, ◌>>=◌, give, here, and_then, many, in_brackets, enclosed}
-use Rattle.cmm_grammar_laws.specs.StatementReading.{is_within, otherwise, part, part_of, block}
-use Rattle.cmm_grammar_laws.specs.declared.told_apart.PartForm.{PartForm}
+use Rattle.cmm_grammar.specs.Reading.{Point, Read, Reads, ◌>>=◌, give, here, and_then, many, in_brackets, enclosed}
+use Rattle.cmm_grammar.specs.StatementReading.{is_within, otherwise, part, part_of, block}
+use Rattle.cmm_grammar.specs.declared.told_apart.PartForm.{PartForm}
 use Rattle.cmm_ast.specs.declared.statement.Stmt.{Stmt}
 use Rattle.cmm_ast.specs.declared.statement.StmtForm.{StmtForm}
 use Rattle.cmm_lexer.specs.declared.piece.Lexeme.{Lexeme}

@@ -1,7 +1,7 @@
 -- One step after another: where a part is answered, and then the rest.
 use Rattle.std.proofs.Common.{◌≡◌, ◌∙◌, sym, ap, refl, subst, ℕ, zero, suc, pred, ◌<◌, ◌≤◌, Bool, true, false, Option, Some, None, option_map, length, Result, Ok, Err, OnOk, IsErrAnd, MatchResult, arith}
 use Rattle.cmm_lexer.specs.declared.piece.Lexeme.{Lexeme}
-use Rattle.cmm_grammar_laws.specs.Reading.{Point, Answer, Read, Reads, ◌>>=◌, next, passes, and_then, choice, if_next, skip, give, symbol, in_brackets, outermost, look, here, Stopped, Unexpected, TooDeep}
+use Rattle.cmm_grammar.specs.Reading.{Point, Answer, Read, Reads, ◌>>=◌, next, passes, and_then, choice, if_next, skip, give, symbol, in_brackets, outermost, look, here, Stopped, Unexpected, TooDeep}
 use Rattle.cmm_parser.specs.declared.fault.Stop.{Stop}
 use Rattle.cmm_parser.specs.declared.fault.Stop.TheVariants as stop
 use Rattle.cmm_parser.specs.inside.Parsing.{Answered, Fewer, Parsed, Takes, MayTake, Opens, Skips, Stays, opening, closing}

@@ -1,9 +1,9 @@
 -- How far the targets before an `=` are read, and names that are turned into what they stand for.
 use Rattle.std.proofs.Common.{◌≡◌, ◌≢◌, ◌∙◌, sym, ap, refl, subst, ℕ, ◌≤◌, Bool, true, List, [], ◌∷◌, length, Result, Ok, Err, arith}
 use Rattle.cmm_ast.specs.declared.token.Ident.{Ident}
-use Rattle.cmm_grammar_laws.specs.Reading.{Point, Answer, Read, Reads, and_then, choice, is_comma}
-use Rattle.cmm_grammar_laws.specs.declared.told_apart.Targets.{Targets}
-use Rattle.cmm_grammar_laws.specs.TargetReading.{next_target, more_targets, checked}
+use Rattle.cmm_grammar.specs.Reading.{Point, Answer, Read, Reads, and_then, choice, is_comma}
+use Rattle.cmm_grammar.specs.declared.told_apart.Targets.{Targets}
+use Rattle.cmm_grammar.specs.TargetReading.{next_target, more_targets, checked}
 use Rattle.cmm_parser.specs.declared.fault.Stop.{Stop}
 use Rattle.cmm_parser.specs.declared.fault.Stop.TheVariants as stop
 use Rattle.cmm_parser.specs.inside.Parsing.{Answered, Parsed, Takes, Skips, Stays, skipped}

@@ -7,7 +7,7 @@ use Rattle.cmm_lexer.specs.declared.token.TokenKind.{TokenKind}
 use Rattle.cmm_lexer.specs.declared.tokens.Tokens.{Tokens}
 use Rattle.cmm_lexer.specs.Lexing.{lexeme_of}
 use Rattle.cmm_ast.specs.declared.unit.Place.{Place}
-use Rattle.cmm_grammar_laws.specs.Derivation.{IsUnexpected, IsTooDeep}
+use Rattle.cmm_grammar.specs.Derivation.{IsUnexpected, IsTooDeep}
 use Rattle.cmm_parser.specs.declared.fault.SyntaxFault.{SyntaxFault}
 use Rattle.cmm_parser.specs.declared.fault.SyntaxFault.TheVariants.{At, Memory}
 

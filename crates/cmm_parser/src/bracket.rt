@@ -2,8 +2,8 @@
 
 ghost use Rattle.std.specs.Prelude.{◌≡◌, ◌+◌, ◌-◌, ◌<◌, ◌≤◌, length, IfOk, OnOk, Result};
 ghost use Rattle.cmm_lexer.specs.Spellings.{keyword_number, symbol_number};
-ghost use Rattle.cmm_grammar_laws.specs.Taking.{is_word, is_sign};
-ghost use Rattle.cmm_grammar_laws.specs.Reading.{skip_opening, skip_operator, if_next, stop};
+ghost use Rattle.cmm_grammar.specs.Taking.{is_word, is_sign};
+ghost use Rattle.cmm_grammar.specs.Reading.{skip_opening, skip_operator, if_next, stop};
 ghost use Rattle.cmm_parser.specs.inside.Parsing.{Takes, Opens, point_of, opening, chaining, closing};
 
 use crate::fault::Stop;

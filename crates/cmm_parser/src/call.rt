@@ -1,12 +1,12 @@
 //! Calls: what is called, what is passed, and the annotations.
 
 ghost use Rattle.std.specs.Prelude.{◌≡◌, ◌+◌, ◌-◌, ◌<◌, ◌≤◌, length, OnOk};
-ghost use Rattle.cmm_grammar_laws.specs.Reading.{◌>>=◌ as followed_by, next, passes, keyword, listed, round};
+ghost use Rattle.cmm_grammar.specs.Reading.{◌>>=◌ as followed_by, next, passes, keyword, listed, round};
 ghost use Rattle.cmm_lexer.specs.declared.keyword.Keyword.TheVariants.{To};
-ghost use Rattle.cmm_grammar_laws.specs.ExpressionReading.{whole};
-ghost use Rattle.cmm_grammar_laws.specs.Reading as readers;
-ghost use Rattle.cmm_grammar_laws.specs.PartReading as parts;
-ghost use Rattle.cmm_grammar_laws.specs.CallReading as calls;
+ghost use Rattle.cmm_grammar.specs.ExpressionReading.{whole};
+ghost use Rattle.cmm_grammar.specs.Reading as readers;
+ghost use Rattle.cmm_grammar.specs.PartReading as parts;
+ghost use Rattle.cmm_grammar.specs.CallReading as calls;
 ghost use Rattle.cmm_parser.specs.inside.Ended.{ended};
 ghost use Rattle.cmm_parser.specs.inside.Parsing.{Takes, MayTake, point_of};
 

@@ -1,10 +1,10 @@
 //! What the arms of a switch are for, and the values that it is over.
 
 ghost use Rattle.std.specs.Prelude.{◌≡◌, ◌-◌, ◌<◌, ◌≤◌, length, OnOk};
-ghost use Rattle.cmm_grammar_laws.specs.Reading.{next, passes};
-ghost use Rattle.cmm_grammar_laws.specs.ExpressionReading.{begins_expression};
-ghost use Rattle.cmm_grammar_laws.specs.PartReading as parts;
-ghost use Rattle.cmm_grammar_laws.specs.StatementReading as statements;
+ghost use Rattle.cmm_grammar.specs.Reading.{next, passes};
+ghost use Rattle.cmm_grammar.specs.ExpressionReading.{begins_expression};
+ghost use Rattle.cmm_grammar.specs.PartReading as parts;
+ghost use Rattle.cmm_grammar.specs.StatementReading as statements;
 ghost use Rattle.cmm_parser.specs.inside.Parsing.{Takes, MayTake, point_of};
 
 use crate::fault::{Stop, followed};

@@ -1,8 +1,8 @@
 //! Data of sections, and what else a section may hold but spans.
 
 ghost use Rattle.std.specs.Prelude.{◌≡◌, ◌-◌, ◌<◌, ◌≤◌, length, OnOk};
-ghost use Rattle.cmm_grammar_laws.specs.StatementReading.{block};
-ghost use Rattle.cmm_grammar_laws.specs.UnitReading as readers;
+ghost use Rattle.cmm_grammar.specs.StatementReading.{block};
+ghost use Rattle.cmm_grammar.specs.UnitReading as readers;
 ghost use Rattle.cmm_parser.specs.inside.Parsing.{Takes, MayTake, point_of};
 
 use crate::fault::{Stop, both, followed};

@@ -2,13 +2,13 @@
 
 ghost use Rattle.std.specs.Prelude.{◌≡◌, ◌-◌, ◌<◌, ◌≤◌, length, Ok, OnOk};
 ghost use Rattle.cmm_lexer.specs.Spellings.{keyword_number};
-ghost use Rattle.cmm_grammar_laws.specs.Taking.{is_word};
+ghost use Rattle.cmm_grammar.specs.Taking.{is_word};
 ghost use Rattle.cmm_lexer.specs.declared.keyword.Keyword.{Keyword};
 ghost use Rattle.cmm_lexer.specs.declared.symbol.Symbol.{Symbol};
-ghost use Rattle.cmm_grammar_laws.specs.Reading.{next, passes};
-ghost use Rattle.cmm_grammar_laws.specs.Reading as tokens;
-ghost use Rattle.cmm_grammar_laws.specs.PartReading.{is_any_name, is_any_text};
-ghost use Rattle.cmm_grammar_laws.specs.DeclarationReading as readers;
+ghost use Rattle.cmm_grammar.specs.Reading.{next, passes};
+ghost use Rattle.cmm_grammar.specs.Reading as tokens;
+ghost use Rattle.cmm_grammar.specs.PartReading.{is_any_name, is_any_text};
+ghost use Rattle.cmm_grammar.specs.DeclarationReading as readers;
 ghost use Rattle.cmm_parser.specs.inside.Parsing.{Takes, MayTake, point_of};
 
 use crate::fault::Stop;
@@ -18,7 +18,7 @@ use crate::types::named_type;
 use cmm_ast::{
     ByteOrder, Decl, DeclForm, Export, Ident, Import, Property, PropertyForm, Text, TypeName,
 };
-use cmm_grammar_laws::Head;
+use cmm_grammar::Head;
 use cmm_items::Items;
 use cmm_lexer::{Keyword, Symbol};
 

@@ -1,9 +1,9 @@
 //! Expressions, by how tightly their operators bind: what stands to the right of one binds more tightly than it.
 
 ghost use Rattle.std.specs.Prelude.{◌≡◌, ◌+◌, ◌-◌, ◌<◌, ◌≤◌, ◌∷◌, ◌++◌, [], pred, length, Ok, IsTrue, OnOk, OnSome, IfOk, Some, pred};
-ghost use Rattle.cmm_grammar_laws.specs.Reading.{listed, look, next, passes};
-ghost use Rattle.cmm_grammar_laws.specs.ExpressionReading as readers;
-ghost use Rattle.cmm_grammar_laws.specs.ExpressionReading.{begins_expression};
+ghost use Rattle.cmm_grammar.specs.Reading.{listed, look, next, passes};
+ghost use Rattle.cmm_grammar.specs.ExpressionReading as readers;
+ghost use Rattle.cmm_grammar.specs.ExpressionReading.{begins_expression};
 ghost use Rattle.cmm_parser.specs.inside.Parsing.{Takes, point_of, prefix_next};
 
 use crate::fault::Stop;

@@ -2,8 +2,8 @@
 
 ghost use Rattle.std.specs.Prelude.{◌≡◌, ◌-◌, ◌<◌, ◌≤◌, ◌∷◌, [], ℕ, Bool, length, OnOk, Result};
 ghost use Rattle.cmm_lexer.specs.declared.piece.Lexeme.{Lexeme};
-ghost use Rattle.cmm_grammar_laws.specs.Reading.{Reads, next, passes};
-ghost use Rattle.cmm_grammar_laws.specs.Reading as readers;
+ghost use Rattle.cmm_grammar.specs.Reading.{Reads, next, passes};
+ghost use Rattle.cmm_grammar.specs.Reading as readers;
 ghost use Rattle.cmm_parser.specs.inside.Parsing.{Takes, MayTake, point_of};
 ghost use Rattle.cmm_parser.specs.Faults.{lexeme_in};
 

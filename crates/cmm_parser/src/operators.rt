@@ -2,8 +2,8 @@
 
 ghost use Rattle.std.specs.Prelude.{◌≡◌};
 ghost use Rattle.cmm_lexer.specs.Spellings.{keyword_number, symbol_number};
-ghost use Rattle.cmm_grammar_laws.specs.ExpressionGrammar.{infix_level, left_level as left_level_of, level_of as level_of_form};
-ghost use Rattle.cmm_grammar_laws.specs.ExpressionReading.{infix_in, prefix_in, width_in};
+ghost use Rattle.cmm_grammar.specs.ExpressionGrammar.{infix_level, left_level as left_level_of, level_of as level_of_form};
+ghost use Rattle.cmm_grammar.specs.ExpressionReading.{infix_in, prefix_in, width_in};
 
 use cmm_ast::{ExprForm, Infix, Prefix};
 use cmm_lexer::{Keyword, Symbol};

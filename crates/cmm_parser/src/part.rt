@@ -2,15 +2,15 @@
 
 ghost use Rattle.std.specs.Prelude.{◌≡◌, ◌-◌, ◌<◌, ◌≤◌, ◌∷◌, [], None, Some, length, IfOk, OnOk};
 ghost use Rattle.cmm_lexer.specs.Spellings.{symbol_number};
-ghost use Rattle.cmm_grammar_laws.specs.Taking.{is_sign};
+ghost use Rattle.cmm_grammar.specs.Taking.{is_sign};
 ghost use Rattle.cmm_lexer.specs.declared.symbol.Symbol.TheVariants.{Open, Less};
 ghost use Rattle.cmm_ast.specs.declared.statement.Lvalue.TheVariants as lvalues;
-ghost use Rattle.cmm_grammar_laws.specs.declared.told_apart.Targets.TheVariants as targets;
-ghost use Rattle.cmm_grammar_laws.specs.Reading.{◌>>=◌ as followed_by, optional, round, may_list};
-ghost use Rattle.cmm_grammar_laws.specs.ExpressionReading.{whole_memory};
-ghost use Rattle.cmm_grammar_laws.specs.ProcedureReading.{variables};
-ghost use Rattle.cmm_grammar_laws.specs.PartReading as parts;
-ghost use Rattle.cmm_grammar_laws.specs.StatementReading as readers;
+ghost use Rattle.cmm_grammar.specs.declared.told_apart.Targets.TheVariants as targets;
+ghost use Rattle.cmm_grammar.specs.Reading.{◌>>=◌ as followed_by, optional, round, may_list};
+ghost use Rattle.cmm_grammar.specs.ExpressionReading.{whole_memory};
+ghost use Rattle.cmm_grammar.specs.ProcedureReading.{variables};
+ghost use Rattle.cmm_grammar.specs.PartReading as parts;
+ghost use Rattle.cmm_grammar.specs.StatementReading as readers;
 ghost use Rattle.cmm_parser.specs.inside.Parsing.{Takes, MayTake, point_of};
 
 use crate::fault::{Stop, both, followed};
@@ -20,7 +20,7 @@ use cmm_ast::{
     Actual, Callee, CalleeForm, Exit, Ident, Kinded, LocalForm, Lvalue, Memory, Modifiers,
     StmtForm, Text, TypeName,
 };
-use cmm_grammar_laws::{PartForm, Targets};
+use cmm_grammar::{PartForm, Targets};
 use cmm_items::Items;
 use cmm_lexer::{Keyword, Symbol, TokenKind};
 use std::alloc::{AllocError, Global};

@@ -3,12 +3,12 @@
 ghost use Rattle.std.specs.Prelude.{◌≡◌, ◌-◌, ◌<◌, ◌≤◌, None, Ok, length, OnOk};
 ghost use Rattle.cmm_lexer.specs.declared.symbol.Symbol.{Symbol};
 ghost use Rattle.cmm_ast.specs.declared.procedure.RoomForm.TheVariants as rooms;
-ghost use Rattle.cmm_grammar_laws.specs.Reading.{next, passes};
-ghost use Rattle.cmm_grammar_laws.specs.Reading as tokens;
-ghost use Rattle.cmm_grammar_laws.specs.ExpressionReading.{whole};
-ghost use Rattle.cmm_grammar_laws.specs.StatementReading.{block};
-ghost use Rattle.cmm_grammar_laws.specs.DeclarationReading.{is_other};
-ghost use Rattle.cmm_grammar_laws.specs.ProcedureReading as readers;
+ghost use Rattle.cmm_grammar.specs.Reading.{next, passes};
+ghost use Rattle.cmm_grammar.specs.Reading as tokens;
+ghost use Rattle.cmm_grammar.specs.ExpressionReading.{whole};
+ghost use Rattle.cmm_grammar.specs.StatementReading.{block};
+ghost use Rattle.cmm_grammar.specs.DeclarationReading.{is_other};
+ghost use Rattle.cmm_grammar.specs.ProcedureReading as readers;
 ghost use Rattle.cmm_parser.specs.inside.Parsing.{Takes, MayTake, point_of};
 
 use crate::fault::Stop;

@@ -3,18 +3,18 @@
 ghost use Rattle.std.specs.Prelude.{◌≡◌, ◌+◌, ◌-◌, ◌<◌, ◌≤◌, ◌∷◌, ◌++◌, [], length, IfOk, OnOk};
 ghost use Rattle.cmm_lexer.specs.declared.symbol.Symbol.TheVariants.{OpenSquare};
 ghost use Rattle.cmm_lexer.specs.Spellings.{symbol_number};
-ghost use Rattle.cmm_grammar_laws.specs.Taking.{is_sign};
+ghost use Rattle.cmm_grammar.specs.Taking.{is_sign};
 ghost use Rattle.cmm_ast.specs.declared.statement.StmtForm.TheVariants as stmts;
-ghost use Rattle.cmm_grammar_laws.specs.declared.told_apart.PartForm.TheVariants as forms;
-ghost use Rattle.cmm_grammar_laws.specs.Reading.{braces, optional, many};
-ghost use Rattle.cmm_grammar_laws.specs.StatementReading as readers;
-ghost use Rattle.cmm_grammar_laws.specs.StatementReading.{is_within};
+ghost use Rattle.cmm_grammar.specs.declared.told_apart.PartForm.TheVariants as forms;
+ghost use Rattle.cmm_grammar.specs.Reading.{braces, optional, many};
+ghost use Rattle.cmm_grammar.specs.StatementReading as readers;
+ghost use Rattle.cmm_grammar.specs.StatementReading.{is_within};
 ghost use Rattle.cmm_parser.specs.inside.Parsing.{Takes, MayTake, TakesBlocks, MayTakeBlocks, TakesChain, MayTakeChain, point_of};
 
 use crate::fault::{Stop, both};
 use crate::parser::Parser;
 use cmm_ast::{Arm, Block, Expr, Local, Otherwise, Part, Primary, Span, Stmt, StmtForm};
-use cmm_grammar_laws::PartForm;
+use cmm_grammar::PartForm;
 use cmm_items::{Boxed, Items};
 use cmm_lexer::{Keyword, Symbol};
 use std::alloc::{AllocError, Global};

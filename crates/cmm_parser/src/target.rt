@@ -2,11 +2,11 @@
 //! first kind, the first word in memory or else what follows the `=` decides.
 
 ghost use Rattle.std.specs.Prelude.{◌≡◌, ◌≢◌, ◌-◌, ◌<◌, ◌≤◌, ◌∷◌, [], length, IfOk, MatchOption, OnOk};
-ghost use Rattle.cmm_grammar_laws.specs.Reading.{next, passes, listed, round};
-ghost use Rattle.cmm_grammar_laws.specs.ExpressionReading.{begins_expression, whole};
-ghost use Rattle.cmm_grammar_laws.specs.PartReading as parts;
-ghost use Rattle.cmm_grammar_laws.specs.TargetReading as readers;
-ghost use Rattle.cmm_grammar_laws.specs.declared.told_apart.Targets.TheVariants.{Names};
+ghost use Rattle.cmm_grammar.specs.Reading.{next, passes, listed, round};
+ghost use Rattle.cmm_grammar.specs.ExpressionReading.{begins_expression, whole};
+ghost use Rattle.cmm_grammar.specs.PartReading as parts;
+ghost use Rattle.cmm_grammar.specs.TargetReading as readers;
+ghost use Rattle.cmm_grammar.specs.declared.told_apart.Targets.TheVariants.{Names};
 ghost use Rattle.cmm_parser.specs.inside.Parsing.{Takes, MayTake, point_of};
 
 use crate::fault::{Stop, both};
@@ -14,7 +14,7 @@ use crate::list::Listed;
 use crate::parser::Parser;
 use crate::types::named_type;
 use cmm_ast::{Callee, CalleeForm, Expr, ExprForm, Ident, Kinded, Lvalue, PrimForm, StmtForm};
-use cmm_grammar_laws::Targets;
+use cmm_grammar::Targets;
 use cmm_items::{Boxed, Items};
 use cmm_lexer::{Keyword, Symbol, TokenKind};
 use cmm_words::Name;

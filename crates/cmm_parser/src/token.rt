@@ -2,12 +2,12 @@
 
 ghost use Rattle.std.specs.Prelude.{◌≡◌, ◌+◌, ◌-◌, ◌^◌, ◌<◌, ◌≤◌, length, Ok, Some, IsTrue, IsFalse, OnOk, OnSome, MatchOption, option_map};
 ghost use Rattle.cmm_lexer.specs.Spellings.{keyword_number, symbol_number};
-ghost use Rattle.cmm_grammar_laws.specs.Taking.{is_word, is_sign};
-ghost use Rattle.cmm_grammar_laws.specs.Reading.{next, past, passes};
-ghost use Rattle.cmm_grammar_laws.specs.Reading as readers;
-ghost use Rattle.cmm_grammar_laws.specs.ExpressionReading.{operator_name};
-ghost use Rattle.cmm_grammar_laws.specs.PartReading.{is_any_name, is_any_text};
-ghost use Rattle.cmm_grammar_laws.specs.DeclarationReading.{is_other, optional_text};
+ghost use Rattle.cmm_grammar.specs.Taking.{is_word, is_sign};
+ghost use Rattle.cmm_grammar.specs.Reading.{next, past, passes};
+ghost use Rattle.cmm_grammar.specs.Reading as readers;
+ghost use Rattle.cmm_grammar.specs.ExpressionReading.{operator_name};
+ghost use Rattle.cmm_grammar.specs.PartReading.{is_any_name, is_any_text};
+ghost use Rattle.cmm_grammar.specs.DeclarationReading.{is_other, optional_text};
 ghost use Rattle.cmm_lexer.specs.declared.piece.Lexeme.{Lexeme};
 ghost use Rattle.cmm_parser.specs.inside.Parsing.{Takes, MayTake, Skips, Stays, NoWord, NoSymbol, skipped, point_of};
 ghost use Rattle.cmm_parser.specs.Faults.{lexeme_in};

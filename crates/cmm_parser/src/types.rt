@@ -1,9 +1,9 @@
 //! Types, and the parts of expressions that hold no other.
 
 ghost use Rattle.std.specs.Prelude.{◌≡◌, ◌-◌, ◌<◌, ◌≤◌, true, length, Ok, IsTrue, OnOk, MatchOption};
-ghost use Rattle.cmm_grammar_laws.specs.Reading.{next, passes, pick};
-ghost use Rattle.cmm_grammar_laws.specs.ExpressionReading as readers;
-ghost use Rattle.cmm_grammar_laws.specs.PartReading.{is_width};
+ghost use Rattle.cmm_grammar.specs.Reading.{next, passes, pick};
+ghost use Rattle.cmm_grammar.specs.ExpressionReading as readers;
+ghost use Rattle.cmm_grammar.specs.PartReading.{is_width};
 ghost use Rattle.cmm_parser.specs.inside.Parsing.{Takes, MayTake, Stays, point_of, width_next, Bits};
 
 use crate::fault::Stop;

@@ -2,12 +2,12 @@
 
 ghost use Rattle.std.specs.Prelude.{◌≡◌, ◌-◌, ◌<◌, ◌≤◌, ◌^◌, [], length, pred, IfErr, IfOk, OnOk};
 ghost use Rattle.cmm_lexer.specs.declared.symbol.Symbol.{Symbol};
-ghost use Rattle.cmm_grammar_laws.specs.Reading.{next, passes, many};
-ghost use Rattle.cmm_grammar_laws.specs.StatementReading.{block};
-ghost use Rattle.cmm_grammar_laws.specs.DeclarationReading.{is_other};
-ghost use Rattle.cmm_grammar_laws.specs.UnitReading as readers;
-ghost use Rattle.cmm_grammar_laws.specs.Derivation.{DerivesWithin, at_start};
-ghost use Rattle.cmm_grammar_laws.specs.ReadingLaws.{point};
+ghost use Rattle.cmm_grammar.specs.Reading.{next, passes, many};
+ghost use Rattle.cmm_grammar.specs.StatementReading.{block};
+ghost use Rattle.cmm_grammar.specs.DeclarationReading.{is_other};
+ghost use Rattle.cmm_grammar.specs.UnitReading as readers;
+ghost use Rattle.cmm_grammar.specs.Derivation.{DerivesWithin, at_start};
+ghost use Rattle.cmm_grammar.specs.ReadingLaws.{point};
 ghost use Rattle.cmm_parser.specs.inside.Parsing.{Takes, MayTake, point_of};
 ghost use Rattle.cmm_parser.specs.Faults.{IsFaultOf, lexemes_of, places_of};
 

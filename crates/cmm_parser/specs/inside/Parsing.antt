@@ -4,16 +4,16 @@ use Rattle.cmm_words.specs.declared.width.Width.{Width}
 use Rattle.cmm_lexer.specs.declared.keyword.Keyword.{Keyword}
 use Rattle.cmm_lexer.specs.declared.piece.Lexeme.{Lexeme}
 use Rattle.cmm_lexer.specs.declared.piece.Lexeme.TheVariants as l
-use Rattle.cmm_grammar_laws.specs.Reading.{Point, Unexpected, TooDeep, Answer, Read, Stopped, Reads, next, past, passes, and_then, if_next, skip_opening, stop as refuse, symbol}
-use Rattle.cmm_grammar_laws.specs.Taking.{is_word, is_sign}
+use Rattle.cmm_grammar.specs.Reading.{Point, Unexpected, TooDeep, Answer, Read, Stopped, Reads, next, past, passes, and_then, if_next, skip_opening, stop as refuse, symbol}
+use Rattle.cmm_grammar.specs.Taking.{is_word, is_sign}
 use Rattle.cmm_lexer.specs.declared.keyword.Keyword.TheVariants.{If}
 use Rattle.cmm_lexer.specs.declared.symbol.Symbol.{Symbol}
 use Rattle.cmm_ast.specs.declared.expression.TypeName.{TypeName}
 use Rattle.cmm_ast.specs.declared.statement.Block.{Block}
 use Rattle.cmm_ast.specs.declared.expression.Prefix.{Prefix}
-use Rattle.cmm_grammar_laws.specs.ExpressionReading.{type_name, width_in, prefix_in}
-use Rattle.cmm_grammar_laws.specs.PartReading.{is_width}
-use Rattle.cmm_grammar_laws.specs.StatementReading.{block}
+use Rattle.cmm_grammar.specs.ExpressionReading.{type_name, width_in, prefix_in}
+use Rattle.cmm_grammar.specs.PartReading.{is_width}
+use Rattle.cmm_grammar.specs.StatementReading.{block}
 use Rattle.cmm_rules.specs.declared.rule.Rule.TheVariants as rules
 use Rattle.cmm_parser.specs.Faults.{lexemes}
 use Rattle.cmm_parser.specs.declared.fault.SyntaxFault.{SyntaxFault}

@@ -2,7 +2,7 @@ use Rattle.std.proofs.Common.{◌≡◌, ◌∙◌, ap, sym, refl, Some, ℕ}
 use Rattle.cmm_ast.specs.declared.expression.Expr.{Expr}
 use Rattle.cmm_ast.specs.declared.expression.ExprForm.TheBlock as ExprForms
 use Rattle.cmm_ast.specs.declared.expression.PrimForm.TheVariants.{Bracketed}
-use Rattle.cmm_grammar_laws.specs.TargetReading.{callee_of_prim}
+use Rattle.cmm_grammar.specs.TargetReading.{callee_of_prim}
 use Rattle.cmm_ast.specs.declared.statement.CalleeForm.TheVariants as callees
 use denote.Hole.Carrier as Carrier
 use Rattle.cmm_parser.proofs.target.callee_of_prim.Goals as goal

@@ -1,5 +1,5 @@
-use Rattle.cmm_grammar_laws.specs.Reading.{◌>>=◌, give}
-use Rattle.cmm_grammar_laws.specs.PartReading.{flow_form}
+use Rattle.cmm_grammar.specs.Reading.{◌>>=◌, give}
+use Rattle.cmm_grammar.specs.PartReading.{flow_form}
 use Rattle.cmm_parser.proofs.Steps.{handed, steps, stops, gives}
 use Rattle.cmm_parser.proofs.CallSteps.{at_token}
 use Rattle.cmm_parser.proofs.call.FlowListed.parse.Goals as goal

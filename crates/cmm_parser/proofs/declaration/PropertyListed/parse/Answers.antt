@@ -1,5 +1,5 @@
-use Rattle.cmm_grammar_laws.specs.Reading.{◌>>=◌, give}
-use Rattle.cmm_grammar_laws.specs.DeclarationReading.{property_form}
+use Rattle.cmm_grammar.specs.Reading.{◌>>=◌, give}
+use Rattle.cmm_grammar.specs.DeclarationReading.{property_form}
 use Rattle.cmm_parser.proofs.Steps.{steps, gives}
 use Rattle.cmm_parser.proofs.DeclarationSteps.{from_here}
 use Rattle.cmm_parser.proofs.declaration.PropertyListed.parse.Goals as goal

@@ -6,10 +6,10 @@ use Rattle.cmm_lexer.specs.declared.piece.Lexeme.{Lexeme}
 use Rattle.cmm_ast.specs.declared.expression.Expr.{Expr}
 use Rattle.cmm_ast.specs.declared.expression.ExprForm.{ExprForm}
 use Rattle.cmm_ast.specs.declared.token.Int.{Int}
-use Rattle.cmm_grammar_laws.specs.ExpressionGrammar.{unary_level}
-use Rattle.cmm_grammar_laws.specs.Reading.{Reads, ◌>>=◌, give, listed, more_listed}
-use Rattle.cmm_grammar_laws.specs.ExpressionReading as readers
-use Rattle.cmm_grammar_laws.specs.ExpressionReading.{begins_expression}
+use Rattle.cmm_grammar.specs.ExpressionGrammar.{unary_level}
+use Rattle.cmm_grammar.specs.Reading.{Reads, ◌>>=◌, give, listed, more_listed}
+use Rattle.cmm_grammar.specs.ExpressionReading as readers
+use Rattle.cmm_grammar.specs.ExpressionReading.{begins_expression}
 use Rattle.cmm_parser.specs.inside.Parsing.{prefix_next}
 use Rattle.cmm_parser.specs.Faults.{lexeme_in}
 use Rattle.cmm_parser.proofs.Steps.{handed, steps, steps_below, stops, halts, gives, gives_same, holds, looks, found, same_reader, same_readers, brackets_below, stops_inside_below, stops_closing_below}

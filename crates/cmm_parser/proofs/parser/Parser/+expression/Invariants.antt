@@ -1,7 +1,7 @@
 -- Each call takes a token first, or is of a function of a lower rank.
 use Rattle.std.proofs.Common.{◌+◌, ◌*◌, length, true}
-use Rattle.cmm_grammar_laws.specs.Reading.{listed, more_listed}
-use Rattle.cmm_grammar_laws.specs.ExpressionReading as readers
+use Rattle.cmm_grammar.specs.Reading.{listed, more_listed}
+use Rattle.cmm_grammar.specs.ExpressionReading as readers
 use Rattle.cmm_parser.specs.inside.Parsing.{point_of}
 use Rattle.cmm_parser.proofs.Loops.{Reaches}
 use Rattle.cmm_parser.proofs.ExpressionSteps.{climbing}

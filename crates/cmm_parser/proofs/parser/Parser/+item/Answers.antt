@@ -3,10 +3,10 @@ use Rattle.cmm_lexer.specs.declared.keyword.Keyword.TheVariants.{Span as SpanWor
 use Rattle.cmm_lexer.specs.declared.symbol.Symbol.TheVariants.{OpenBrace, CloseBrace}
 use Rattle.cmm_ast.specs.declared.unit.Item.{Item}
 use Rattle.cmm_ast.specs.declared.unit.Item.TheVariants.{Span}
-use Rattle.cmm_grammar_laws.specs.Reading.{Reads, ◌>>=◌, give, keyword}
-use Rattle.cmm_grammar_laws.specs.ExpressionReading.{whole, whole_prim}
-use Rattle.cmm_grammar_laws.specs.StatementReading.{block}
-use Rattle.cmm_grammar_laws.specs.UnitReading.{in_braces, item}
+use Rattle.cmm_grammar.specs.Reading.{Reads, ◌>>=◌, give, keyword}
+use Rattle.cmm_grammar.specs.ExpressionReading.{whole, whole_prim}
+use Rattle.cmm_grammar.specs.StatementReading.{block}
+use Rattle.cmm_grammar.specs.UnitReading.{in_braces, item}
 use Rattle.cmm_parser.proofs.Steps.{handed, steps, steps_below, stops, holds, fails, gives, brackets, stopped, stops_inside, stops_closing}
 use Rattle.cmm_parser.proofs.Loops.{many_turn, many_ends, many_breaks}
 use Rattle.cmm_parser.proofs.DeclarationSteps.{from_here, item_turned}

@@ -1,10 +1,10 @@
 -- Each call takes a token first, or is of a function of a lower rank.
 use Rattle.std.proofs.Common.{◌+◌, ◌*◌, [], length, false}
 use Rattle.cmm_lexer.specs.declared.symbol.Symbol.TheVariants.{CloseBrace}
-use Rattle.cmm_grammar_laws.specs.Reading.{many}
-use Rattle.cmm_grammar_laws.specs.StatementReading.{block}
-use Rattle.cmm_grammar_laws.specs.DeclarationReading.{is_other}
-use Rattle.cmm_grammar_laws.specs.UnitReading.{item}
+use Rattle.cmm_grammar.specs.Reading.{many}
+use Rattle.cmm_grammar.specs.StatementReading.{block}
+use Rattle.cmm_grammar.specs.DeclarationReading.{is_other}
+use Rattle.cmm_grammar.specs.UnitReading.{item}
 use Rattle.cmm_parser.specs.inside.Parsing.{point_of}
 use Rattle.cmm_parser.proofs.Loops.{Reaches}
 use Rattle.cmm_parser.proofs.parser.Parser.+item.Given as goal

@@ -6,9 +6,9 @@ use Rattle.cmm_ast.specs.declared.statement.Otherwise.TheVariants.{Else, ElseIf}
 use Rattle.cmm_ast.specs.declared.statement.Part.{Part}
 use Rattle.cmm_ast.specs.declared.statement.Stmt.{Stmt}
 use Rattle.cmm_ast.specs.declared.statement.StmtForm.{StmtForm}
-use Rattle.cmm_grammar_laws.specs.declared.told_apart.PartForm.{PartForm}
-use Rattle.cmm_grammar_laws.specs.Reading.{Reads, ◌>>=◌, give, here, many}
-use Rattle.cmm_grammar_laws.specs.StatementReading as readers
+use Rattle.cmm_grammar.specs.declared.told_apart.PartForm.{PartForm}
+use Rattle.cmm_grammar.specs.Reading.{Reads, ◌>>=◌, give, here, many}
+use Rattle.cmm_grammar.specs.StatementReading as readers
 use Rattle.cmm_parser.specs.inside.Parsing.{chaining, point_of}
 use Rattle.cmm_parser.proofs.Steps.{handed, told, loosely, steps, stops, halts, stopped, gives, gives_same, holds, fails, takes, leaves, brackets, stops_opening, stops_inside, stops_closing, brackets_below, stops_inside_below, stops_closing_below}
 use Rattle.cmm_parser.proofs.Loops.{many_turn, many_ends, many_breaks}

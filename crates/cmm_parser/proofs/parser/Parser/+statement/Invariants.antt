@@ -1,7 +1,7 @@
 -- Each call takes a token first, or is of a function of a lower rank.
 use Rattle.std.proofs.Common.{◌+◌, ◌*◌, ◌<◌, [], ℕ, length, false}
-use Rattle.cmm_grammar_laws.specs.Reading.{many}
-use Rattle.cmm_grammar_laws.specs.StatementReading as readers
+use Rattle.cmm_grammar.specs.Reading.{many}
+use Rattle.cmm_grammar.specs.StatementReading as readers
 use Rattle.cmm_parser.specs.inside.Parsing.{point_of}
 use Rattle.cmm_parser.proofs.Loops.{Reaches}
 use Rattle.cmm_parser.proofs.parser.Parser.+statement.Given as goal

@@ -1,6 +1,6 @@
 use Rattle.std.proofs.Common.{◌≡◌, ◌∙◌, rules}
-use Rattle.cmm_grammar_laws.specs.CallReading.{call_after}
-use Rattle.cmm_grammar_laws.specs.TargetReading.{results_of}
+use Rattle.cmm_grammar.specs.CallReading.{call_after}
+use Rattle.cmm_grammar.specs.TargetReading.{results_of}
 use Rattle.cmm_parser.proofs.Steps.{holds, same_reader}
 use Rattle.cmm_parser.proofs.parser.Parser.after_names.Goals as goal
 

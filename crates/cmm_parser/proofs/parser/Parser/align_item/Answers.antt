@@ -3,8 +3,8 @@ use Rattle.cmm_lexer.specs.declared.keyword.Keyword.TheVariants.{Align as AlignW
 use Rattle.cmm_lexer.specs.declared.symbol.Symbol.TheVariants.{Semicolon}
 use Rattle.cmm_ast.specs.declared.unit.Item.{Item}
 use Rattle.cmm_ast.specs.declared.unit.DatumForm.TheVariants.{Align}
-use Rattle.cmm_grammar_laws.specs.Reading.{Reads, ◌>>=◌, give, keyword, symbol, int}
-use Rattle.cmm_grammar_laws.specs.UnitReading.{datum_at}
+use Rattle.cmm_grammar.specs.Reading.{Reads, ◌>>=◌, give, keyword, symbol, int}
+use Rattle.cmm_grammar.specs.UnitReading.{datum_at}
 use Rattle.cmm_parser.proofs.Steps.{handed, steps, stops, gives_same}
 use Rattle.cmm_parser.proofs.DeclarationSteps.{from_here}
 use Rattle.cmm_parser.proofs.parser.Parser.align_item.Goals as goal

@@ -1,6 +1,6 @@
 use Rattle.std.proofs.Common.{◌≡◌, List, Ok, Err, Result}
-use Rattle.cmm_grammar_laws.specs.Reading.{◌>>=◌, give, keyword, listed, ident, Point}
-use Rattle.cmm_grammar_laws.specs.PartReading.{is_any_name, names_to}
+use Rattle.cmm_grammar.specs.Reading.{◌>>=◌, give, keyword, listed, ident, Point}
+use Rattle.cmm_grammar.specs.PartReading.{is_any_name, names_to}
 use Rattle.cmm_ast.specs.declared.token.Ident.{Ident}
 use Rattle.cmm_ast.specs.declared.statement.FlowForm.{FlowForm}
 use Rattle.cmm_parser.specs.declared.fault.Stop.{Stop}

@@ -1,5 +1,5 @@
 use Rattle.std.proofs.Common.{sym}
-use Rattle.cmm_grammar_laws.specs.TargetReading.{assigned}
+use Rattle.cmm_grammar.specs.TargetReading.{assigned}
 use Rattle.cmm_parser.proofs.Steps.{same_reader}
 use Rattle.cmm_parser.proofs.parser.Parser.assigned.Goals as goal
 

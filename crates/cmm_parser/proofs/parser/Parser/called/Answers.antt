@@ -1,6 +1,6 @@
 use Rattle.std.proofs.Common.{◌≡◌, sym, subst, None, IfOk}
-use Rattle.cmm_grammar_laws.specs.CallReading.{call}
-use Rattle.cmm_grammar_laws.specs.TargetReading.{results_of, called}
+use Rattle.cmm_grammar.specs.CallReading.{call}
+use Rattle.cmm_grammar.specs.TargetReading.{results_of, called}
 use Rattle.cmm_parser.proofs.Steps.{same_reader}
 use Rattle.cmm_parser.proofs.parser.Parser.called.Goals as goal
 

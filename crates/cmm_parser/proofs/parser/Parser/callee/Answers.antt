@@ -1,7 +1,7 @@
-use Rattle.cmm_grammar_laws.specs.Taking.{is_sign}
-use Rattle.cmm_grammar_laws.specs.Reading.{◌>>=◌, if_next, give, round}
-use Rattle.cmm_grammar_laws.specs.ExpressionReading.{whole}
-use Rattle.cmm_grammar_laws.specs.PartReading.{lvalue, called}
+use Rattle.cmm_grammar.specs.Taking.{is_sign}
+use Rattle.cmm_grammar.specs.Reading.{◌>>=◌, if_next, give, round}
+use Rattle.cmm_grammar.specs.ExpressionReading.{whole}
+use Rattle.cmm_grammar.specs.PartReading.{lvalue, called}
 use Rattle.cmm_parser.proofs.Steps.{handed, steps, stops, gives}
 use Rattle.cmm_parser.proofs.CallSteps.{at_token}
 use Rattle.cmm_lexer.specs.declared.symbol.Symbol.TheVariants.{Open}

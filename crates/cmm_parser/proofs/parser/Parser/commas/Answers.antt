@@ -1,5 +1,5 @@
 use Rattle.std.proofs.Common.{◌≡◌, ◌∷◌, [], rules}
-use Rattle.cmm_grammar_laws.specs.Reading as readers
+use Rattle.cmm_grammar.specs.Reading as readers
 use Rattle.cmm_parser.proofs.Steps.{handed, stops}
 use Rattle.cmm_parser.proofs.Loops.{starts_after, comma_turn, comma_ends, comma_breaks}
 use Rattle.cmm_parser.proofs.parser.Parser.commas.Goals as goal

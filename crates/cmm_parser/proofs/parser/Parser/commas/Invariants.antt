@@ -1,5 +1,5 @@
 use Rattle.std.proofs.Common.{length, true}
-use Rattle.cmm_grammar_laws.specs.Reading as readers
+use Rattle.cmm_grammar.specs.Reading as readers
 use Rattle.cmm_parser.specs.inside.Parsing.{point_of}
 use Rattle.cmm_parser.proofs.Loops.{Reaches}
 use Rattle.cmm_parser.proofs.parser.Parser.commas.Given as goal

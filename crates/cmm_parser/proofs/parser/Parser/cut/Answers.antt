@@ -1,4 +1,4 @@
-use Rattle.cmm_grammar_laws.specs.PartReading.{annotations}
+use Rattle.cmm_grammar.specs.PartReading.{annotations}
 use Rattle.cmm_parser.proofs.Ended.{ends, stops_ending}
 use Rattle.cmm_parser.proofs.Steps.{handed, told, steps, stopped, stops}
 use Rattle.cmm_parser.proofs.parser.Parser.cut.Goals as goal

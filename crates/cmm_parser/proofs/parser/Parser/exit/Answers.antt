@@ -1,7 +1,7 @@
 use Rattle.std.proofs.Common.{ℕ}
 use Rattle.cmm_ast.specs.declared.statement.Exit.{Exit}
-use Rattle.cmm_grammar_laws.specs.Reading.{Reads, ◌>>=◌, give, symbol}
-use Rattle.cmm_grammar_laws.specs.ExpressionReading.{whole_prim}
+use Rattle.cmm_grammar.specs.Reading.{Reads, ◌>>=◌, give, symbol}
+use Rattle.cmm_grammar.specs.ExpressionReading.{whole_prim}
 use Rattle.cmm_parser.proofs.Steps.{handed, told, steps, stops, gives}
 use Rattle.cmm_parser.proofs.CallSteps.{at_token}
 use Rattle.cmm_lexer.specs.declared.symbol.Symbol.TheVariants.{Less, Slash, Greater}

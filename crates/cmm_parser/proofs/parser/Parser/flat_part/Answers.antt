@@ -1,7 +1,7 @@
 use Rattle.std.proofs.Common.{refl, Some}
-use Rattle.cmm_grammar_laws.specs.StatementReading.{of_stmt}
+use Rattle.cmm_grammar.specs.StatementReading.{of_stmt}
 use Rattle.cmm_parser.proofs.Steps.{looks, found, same_readers}
-use Rattle.cmm_grammar_laws.specs.StatementReading.{flat_by, symbol_stmt}
+use Rattle.cmm_grammar.specs.StatementReading.{flat_by, symbol_stmt}
 use Rattle.cmm_parser.proofs.CallSteps.{by_symbol}
 use Rattle.cmm_parser.specs.Faults.{lexeme_in}
 use Rattle.cmm_parser.proofs.parser.Parser.flat_part.Goals as goal

@@ -1,10 +1,10 @@
 use Rattle.std.proofs.Common.{◌≡◌, ◌∙◌, rules, [], ◌∷◌, Some}
-use Rattle.cmm_grammar_laws.specs.TargetReading.{assignment}
-use Rattle.cmm_grammar_laws.specs.ProcedureReading.{variables}
-use Rattle.cmm_grammar_laws.specs.StatementReading.{of_local}
+use Rattle.cmm_grammar.specs.TargetReading.{assignment}
+use Rattle.cmm_grammar.specs.ProcedureReading.{variables}
+use Rattle.cmm_grammar.specs.StatementReading.{of_local}
 use Rattle.cmm_parser.proofs.Steps.{handed, steps, stops, gives, holds, fails, same_reader}
 use Rattle.cmm_ast.specs.declared.procedure.Modifiers.TheVariants as before
-use Rattle.cmm_grammar_laws.specs.declared.told_apart.Targets.TheVariants.{Results}
+use Rattle.cmm_grammar.specs.declared.told_apart.Targets.TheVariants.{Results}
 use Rattle.cmm_parser.proofs.parser.Parser.kinded_part.Goals as goal
 
 pub returns-then-is_name : goal.returns-then-is_name

@@ -1,5 +1,5 @@
 use Rattle.std.proofs.Common.{◌∙◌}
-use Rattle.cmm_grammar_laws.specs.ExpressionReading.{whole_memory}
+use Rattle.cmm_grammar.specs.ExpressionReading.{whole_memory}
 use Rattle.cmm_parser.proofs.Steps.{handed, loosely, steps, stops, gives, holds, same_reader}
 use Rattle.cmm_parser.proofs.parser.Parser.lvalue_from.Goals as goal
 

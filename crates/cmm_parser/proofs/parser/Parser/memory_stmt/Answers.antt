@@ -1,10 +1,10 @@
 use Rattle.std.proofs.Common.{◌≡◌, ◌∙◌, rules, [], ◌∷◌, None}
-use Rattle.cmm_grammar_laws.specs.CallReading.{call}
-use Rattle.cmm_grammar_laws.specs.TargetReading.{assignment}
+use Rattle.cmm_grammar.specs.CallReading.{call}
+use Rattle.cmm_grammar.specs.TargetReading.{assignment}
 use Rattle.cmm_parser.proofs.Steps.{holds, fails, same_reader}
 use Rattle.cmm_ast.specs.declared.statement.CalleeForm.TheVariants as callees
 use Rattle.cmm_ast.specs.declared.statement.Lvalue.TheVariants as lvalues
-use Rattle.cmm_grammar_laws.specs.declared.told_apart.Targets.TheVariants.{Lvalues}
+use Rattle.cmm_grammar.specs.declared.told_apart.Targets.TheVariants.{Lvalues}
 use Rattle.cmm_parser.proofs.parser.Parser.memory_stmt.Goals as goal
 
 pub returns-then-is_symbol : goal.returns-then-is_symbol

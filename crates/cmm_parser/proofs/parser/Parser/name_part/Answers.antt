@@ -1,6 +1,6 @@
 use Rattle.std.proofs.Common.{◌∙◌}
-use Rattle.cmm_grammar_laws.specs.ProcedureReading.{variables}
-use Rattle.cmm_grammar_laws.specs.StatementReading.{of_local}
+use Rattle.cmm_grammar.specs.ProcedureReading.{variables}
+use Rattle.cmm_grammar.specs.StatementReading.{of_local}
 use Rattle.cmm_parser.proofs.Steps.{handed, steps, stops, gives, holds, fails, same_reader}
 use Rattle.cmm_ast.specs.declared.procedure.Modifiers.TheVariants as before
 use Rattle.cmm_parser.proofs.parser.Parser.name_part.Goals as goal

@@ -1,12 +1,12 @@
 use Rattle.std.proofs.Common.{◌≡◌, ◌∙◌, rules, [], ◌∷◌, None}
-use Rattle.cmm_grammar_laws.specs.Reading.{◌>>=◌}
-use Rattle.cmm_grammar_laws.specs.ExpressionReading.{whole_memory}
-use Rattle.cmm_grammar_laws.specs.CallReading.{call}
-use Rattle.cmm_grammar_laws.specs.TargetReading.{assignment}
-use Rattle.cmm_grammar_laws.specs.StatementReading.{memory_stmt}
+use Rattle.cmm_grammar.specs.Reading.{◌>>=◌}
+use Rattle.cmm_grammar.specs.ExpressionReading.{whole_memory}
+use Rattle.cmm_grammar.specs.CallReading.{call}
+use Rattle.cmm_grammar.specs.TargetReading.{assignment}
+use Rattle.cmm_grammar.specs.StatementReading.{memory_stmt}
 use Rattle.cmm_parser.proofs.Steps.{holds, fails, leaves, same_reader}
 use Rattle.cmm_ast.specs.declared.statement.CalleeForm.TheVariants as callees
-use Rattle.cmm_grammar_laws.specs.declared.told_apart.Targets.TheVariants.{Names}
+use Rattle.cmm_grammar.specs.declared.told_apart.Targets.TheVariants.{Names}
 use Rattle.cmm_parser.proofs.parser.Parser.name_stmt.Goals as goal
 
 pub returns-then-is_symbol : goal.returns-then-is_symbol

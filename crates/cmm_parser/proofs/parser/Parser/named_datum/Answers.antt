@@ -1,4 +1,4 @@
-use Rattle.cmm_grammar_laws.specs.UnitReading.{values_of}
+use Rattle.cmm_grammar.specs.UnitReading.{values_of}
 use Rattle.cmm_parser.proofs.Steps.{leaves}
 use Rattle.cmm_parser.proofs.DeclarationSteps.{reads_same}
 use Rattle.cmm_parser.proofs.parser.Parser.named_datum.Goals as goal

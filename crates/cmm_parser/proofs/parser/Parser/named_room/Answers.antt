@@ -1,4 +1,4 @@
-use Rattle.cmm_grammar_laws.specs.ProcedureReading.{sized_room}
+use Rattle.cmm_grammar.specs.ProcedureReading.{sized_room}
 use Rattle.cmm_parser.proofs.Steps.{steps, leaves}
 use Rattle.cmm_parser.proofs.DeclarationSteps.{reads_same}
 use Rattle.cmm_parser.proofs.parser.Parser.named_room.Goals as goal

@@ -1,7 +1,7 @@
 use Rattle.std.proofs.Common.{rules, sym, ap}
-use Rattle.cmm_grammar_laws.specs.TargetReading.{next_target}
+use Rattle.cmm_grammar.specs.TargetReading.{next_target}
 use Rattle.cmm_parser.proofs.Steps.{steps, stops, gives_same, same_reader}
-use Rattle.cmm_grammar_laws.specs.declared.told_apart.Targets.TheVariants.{Lvalues, Results}
+use Rattle.cmm_grammar.specs.declared.told_apart.Targets.TheVariants.{Lvalues, Results}
 use Rattle.cmm_parser.proofs.parser.Parser.next_target.Goals as goal
 
 pub returns-in_err-lvalue-in-Lvalues : goal.returns-in_err-lvalue-in-Lvalues

@@ -1,8 +1,8 @@
 use Rattle.std.proofs.Common.{ℕ, Option, Some, refl}
 use Rattle.cmm_lexer.specs.declared.piece.Lexeme.{Lexeme}
 use Rattle.cmm_ast.specs.declared.expression.PrimForm.{PrimForm}
-use Rattle.cmm_grammar_laws.specs.Reading.{Reads}
-use Rattle.cmm_grammar_laws.specs.ExpressionReading as readers
+use Rattle.cmm_grammar.specs.Reading.{Reads}
+use Rattle.cmm_grammar.specs.ExpressionReading as readers
 use Rattle.cmm_parser.proofs.Steps.{looks, found, with_more, same_readers}
 use Rattle.cmm_parser.proofs.ExpressionSteps.{literal_only}
 use Rattle.cmm_parser.specs.Faults.{lexeme_in}

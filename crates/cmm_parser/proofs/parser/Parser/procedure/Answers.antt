@@ -4,7 +4,7 @@ use Rattle.cmm_ast.specs.declared.token.Ident.{Ident}
 use Rattle.cmm_ast.specs.declared.procedure.Formal.{Formal}
 use Rattle.cmm_ast.specs.declared.procedure.Proc.{Proc}
 use Rattle.cmm_ast.specs.declared.statement.Block.{Block}
-use Rattle.cmm_grammar_laws.specs.Reading.{Reads, give}
+use Rattle.cmm_grammar.specs.Reading.{Reads, give}
 use Rattle.cmm_parser.proofs.Steps.{handed, steps, stops, gives, numbered, brackets, stops_inside, stops_closing}
 use Rattle.cmm_parser.proofs.parser.Parser.procedure.Goals as goal
 

@@ -1,9 +1,9 @@
 use Rattle.std.proofs.Common.{ℕ}
 use Rattle.cmm_lexer.specs.declared.keyword.Keyword.TheVariants.{Section as SectionWord}
 use Rattle.cmm_ast.specs.declared.unit.Section.{Section}
-use Rattle.cmm_grammar_laws.specs.Reading.{Reads, ◌>>=◌, give, keyword, text}
-use Rattle.cmm_grammar_laws.specs.StatementReading.{block}
-use Rattle.cmm_grammar_laws.specs.UnitReading.{in_braces, item}
+use Rattle.cmm_grammar.specs.Reading.{Reads, ◌>>=◌, give, keyword, text}
+use Rattle.cmm_grammar.specs.StatementReading.{block}
+use Rattle.cmm_grammar.specs.UnitReading.{in_braces, item}
 use Rattle.cmm_parser.proofs.Steps.{handed, steps, stops, gives}
 use Rattle.cmm_parser.proofs.DeclarationSteps.{from_here}
 use Rattle.cmm_parser.proofs.parser.Parser.section.Goals as goal

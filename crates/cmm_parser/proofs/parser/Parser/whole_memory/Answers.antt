@@ -1,4 +1,4 @@
-use Rattle.cmm_grammar_laws.specs.ExpressionReading as readers
+use Rattle.cmm_grammar.specs.ExpressionReading as readers
 use Rattle.cmm_parser.proofs.Steps.{outer, with_more}
 use Rattle.cmm_parser.proofs.parser.Parser.whole_memory.Goals as goal
 

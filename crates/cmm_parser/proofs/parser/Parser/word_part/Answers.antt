@@ -1,5 +1,5 @@
 use Rattle.std.proofs.Common.{rules}
-use Rattle.cmm_grammar_laws.specs.PartReading.{is_width}
+use Rattle.cmm_grammar.specs.PartReading.{is_width}
 use Rattle.cmm_parser.specs.inside.Parsing.{point_of, Stays}
 use Rattle.cmm_parser.proofs.Steps.{leaves}
 use Rattle.cmm_parser.proofs.CallSteps.{takes_bits}

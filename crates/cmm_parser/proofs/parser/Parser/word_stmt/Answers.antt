@@ -1,5 +1,5 @@
 use Rattle.std.proofs.Common.{◌∙◌}
-use Rattle.cmm_grammar_laws.specs.CallReading.{call_after}
+use Rattle.cmm_grammar.specs.CallReading.{call_after}
 use Rattle.cmm_parser.proofs.Steps.{holds, takes, leaves, same_reader}
 use Rattle.cmm_parser.proofs.parser.Parser.word_stmt.Goals as goal
 

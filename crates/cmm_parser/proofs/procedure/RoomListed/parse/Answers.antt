@@ -1,5 +1,5 @@
-use Rattle.cmm_grammar_laws.specs.Reading.{◌>>=◌, give}
-use Rattle.cmm_grammar_laws.specs.ProcedureReading.{room_form}
+use Rattle.cmm_grammar.specs.Reading.{◌>>=◌, give}
+use Rattle.cmm_grammar.specs.ProcedureReading.{room_form}
 use Rattle.cmm_parser.proofs.Steps.{handed, steps, stops, gives}
 use Rattle.cmm_parser.proofs.DeclarationSteps.{from_here}
 use Rattle.cmm_parser.proofs.procedure.RoomListed.parse.Goals as goal

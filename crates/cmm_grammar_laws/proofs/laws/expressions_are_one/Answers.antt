@@ -1,5 +1,0 @@
-use Rattle.cmm_grammar_laws.proofs.ExpressionLaws.{one_expression}
-use Rattle.cmm_grammar_laws.proofs.laws.expressions_are_one.Goals as goal
-
-pub returns : goal.returns
-returns c = one_expression

@@ -1,8 +1,0 @@
-use Rattle.cmm_grammar_laws.proofs.ExpressionLaws.{each_is_read, what_is_read_is_one}
-use Rattle.cmm_grammar_laws.proofs.laws.expressions_are_read.Goals as goal
-
-pub returns-clause-complete : goal.returns-clause-complete
-returns-clause-complete c = each_is_read
-
-pub returns-clause-sound : goal.returns-clause-sound
-returns-clause-sound c = what_is_read_is_one

@@ -1,5 +1,0 @@
-use Rattle.cmm_grammar_laws.proofs.UnitLaws.{one_unit}
-use Rattle.cmm_grammar_laws.proofs.laws.units_are_one.Goals as goal
-
-pub returns : goal.returns
-returns c = one_unit

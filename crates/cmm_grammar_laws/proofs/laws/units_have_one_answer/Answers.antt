@@ -1,5 +1,0 @@
-use Rattle.cmm_grammar_laws.proofs.UnitLaws.{one_answer}
-use Rattle.cmm_grammar_laws.proofs.laws.units_have_one_answer.Goals as goal
-
-pub returns : goal.returns
-returns c = one_answer
