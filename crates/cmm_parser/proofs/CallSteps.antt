@@ -1,5 +1,5 @@
 -- Steps of the readers of calls and statements: a token's number, a word for bits, steps grouped the other way, and parts by their first token.
-use Rattle.std.proofs.Common.{◌≡◌, refl, subst, ℕ, Bool, true, Some, Result, Ok, arith}
+use Rattle.std.proofs.Common.{◌≡◌, refl, subst, ℕ, Bool, true, Some, Result, Ok}
 use Rattle.cmm_ast.specs.declared.expression.TypeName.{TypeName}
 use Rattle.cmm_grammar.specs.Reading.{Point, Answer, Read, Stopped, Reads, ◌>>=◌, and_then, if_next, here}
 use Rattle.cmm_grammar.specs.ExpressionReading.{type_name}

@@ -11,7 +11,7 @@ use Rattle.cmm_ast.specs.declared.expression.ExprForm.TheVariants.{Named, Prim}
 use Rattle.cmm_lexer.specs.declared.token.TokenKind.{TokenKind}
 use Rattle.cmm_lexer.specs.declared.tokens.Tokens.{Tokens}
 use Rattle.cmm_parser.specs.declared.fault.Stop.{Stop}
-use Rattle.cmm_parser.specs.inside.Parsing.{Answered, Parsed, Takes}
+use Rattle.cmm_parser.specs.inside.Parsing.{Answered, Takes}
 use Rattle.cmm_parser.specs.Faults.{lexeme_in}
 use Rattle.cmm_parser.proofs.Steps.{stop_first}
 use Rattle.cmm_parser.proofs.Loops.{Reaches, Turns, goes_on, ends, breaks}

@@ -1,5 +1,5 @@
 -- One step after another: where a part is answered, and then the rest.
-use Rattle.std.proofs.Common.{◌≡◌, ◌∙◌, sym, ap, refl, subst, ℕ, zero, suc, pred, ◌<◌, ◌≤◌, Bool, true, false, Option, Some, None, option_map, length, Result, Ok, Err, OnOk, IsErrAnd, MatchResult, arith}
+use Rattle.std.proofs.Common.{◌≡◌, ◌∙◌, sym, ap, refl, subst, ℕ, zero, suc, pred, ◌<◌, ◌≤◌, Bool, true, false, Option, Some, None, option_map, length, Result, Ok, Err, OnOk, IsErrAnd, arith}
 use Rattle.cmm_lexer.specs.declared.piece.Lexeme.{Lexeme}
 use Rattle.cmm_grammar.specs.Reading.{Point, Answer, Read, Reads, ◌>>=◌, next, passes, and_then, choice, if_next, skip, give, symbol, in_brackets, outermost, look, here, Stopped, Unexpected, TooDeep}
 use Rattle.cmm_parser.specs.declared.fault.Stop.{Stop}
@@ -111,11 +111,6 @@ pub leaves : {A : Type 0} {some : Bool} {test : Lexeme → Bool} {then_ else_ : 
     Stays test before between → Parsed some else_ between result after → Parsed some (λ fuel. if_next test (then_ fuel) (else_ fuel)) before result after
 leaves {some = some} {test = test} {then_ = then_} {else_ = else_} {before = before} {after = after} {result = result} stays one =
     fails stays.failing (subst (λ p. Parsed some else_ p result after) stays.there one)
-
--- a part, by what came of it
-pub told : {A : Type 0} {some : Bool} {reads : ℕ → Reads A} {before after : Point} {one other : Result A Stop} → one ≡ other → Parsed some reads before one after →
-    Parsed some reads before other after
-told {some = some} {reads = reads} {before = before} {after = after} is one = subst (λ r. Parsed some reads before r after) is one
 
 -- what was read, by another name
 pub renamed : {A : Type 0} {some : Bool} {reads : ℕ → Reads A} {before after : Point} {a b : A} → b ≡ a → Parsed some reads before (Ok a) after →
@@ -238,13 +233,6 @@ stops_opening {before = before} {after = after} {e = e} reads first last opener 
       (stop_first e (opening first true before) (λ _ q. and_then (reads fuel true q) (λ a q. and_then (symbol last true q) (λ _ q. Read a q))) after after (opener.answers.answers fuel less));
   taken = tt;
 }
-
--- the same, where what is inside is handed on with what came of the closing bracket
-pub closes : {A : Type 0} {some : Bool} {reads : ℕ → Reads A} {before inside within after : Point} {outside : ℕ} {a : A} {result : Result A Stop} {closer : Result (Unit {0}) Stop}
-    (first last : Symbol) → Opens (opening first) before (Ok outside) inside → Parsed some reads inside (Ok a) within → Takes (λ fuel. closing last outside) within closer after →
-    MatchResult result (λ value. (value ≡ a) × (closer ≡ Ok tt)) (λ fault. closer ≡ Err fault) → Takes (λ fuel. in_brackets first (reads fuel) last) before result after
-closes {result = Ok b} first last opener one closed is = renamed is.0 (brackets first last opener one (told is.1 closed))
-closes {result = Err e} first last opener one closed is = stops_closing first last opener one (told is closed)
 
 -- the same where what is inside is read with one turn less
 pub brackets_below : {A : Type 0} {some : Bool} {before inside within after : Point} {outside : ℕ} {a : A} (reads : ℕ → Reads A) (first last : Symbol) →

@@ -10,7 +10,7 @@ ghost use Rattle.cmm_grammar.specs.CallReading as calls;
 ghost use Rattle.cmm_parser.specs.inside.Ended.{ended};
 ghost use Rattle.cmm_parser.specs.inside.Parsing.{Takes, MayTake, point_of};
 
-use crate::fault::{Stop, both, followed};
+use crate::fault::Stop;
 use crate::list::Listed;
 use crate::parser::Parser;
 use cmm_ast::{
@@ -94,9 +94,9 @@ impl Parser<'_> {
         ensures { Takes (λ fuel. round (whole fuel)) (point_of self.old) result (point_of self.new) }
     {
         let outside = self.enter(Symbol::Open)?;
-        let inner = self.boxed_whole()?;
+        let inner = self.whole()?;
         self.leave(Symbol::Close, outside)?;
-        Ok(inner.into_inner())
+        Ok(inner)
     }
 
     /// What is called: an expression in round brackets, a name or a word in memory.
@@ -130,9 +130,8 @@ impl Parser<'_> {
     ) -> Result<StmtForm, Stop>
         ensures { Takes (λ fuel. calls.call fuel results convention callee) (point_of self.old) result (point_of self.new) }
     {
-        let called = both(callee, self.arguments())?;
-        let (called, flows) = both(called, self.last_annotations())?;
-        let (callee, actuals) = called;
+        let actuals = self.arguments()?;
+        let flows = self.last_annotations()?;
         Ok(StmtForm::Call {
             results,
             convention,
@@ -231,10 +230,9 @@ impl Parser<'_> {
         let token = self.here();
         self.expect(Symbol::Less)?;
         let index = self.whole_prim()?;
-        let index = followed(index, self.expect(Symbol::Slash))?;
-        let ways = both(index, self.whole_prim())?;
-        let ways = followed(ways, self.expect(Symbol::Greater))?;
-        let (index, count) = ways;
+        self.expect(Symbol::Slash)?;
+        let count = self.whole_prim()?;
+        self.expect(Symbol::Greater)?;
         Ok(Exit {
             token,
             index,

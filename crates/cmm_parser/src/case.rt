@@ -7,7 +7,7 @@ ghost use Rattle.cmm_grammar.specs.PartReading as parts;
 ghost use Rattle.cmm_grammar.specs.StatementReading as statements;
 ghost use Rattle.cmm_parser.specs.inside.Parsing.{Takes, MayTake, point_of};
 
-use crate::fault::{Stop, followed};
+use crate::fault::Stop;
 use crate::list::Listed;
 use crate::parser::Parser;
 use cmm_ast::{Case, Expr, Range, Span};
@@ -23,9 +23,8 @@ impl Listed for Range {
     }
 
     fn parse(parser: &mut Parser<'_>) -> Result<Range, Stop> {
-        let from = parser.boxed_whole()?;
+        let from = parser.whole()?;
         let to = parser.range_end()?;
-        let from = from.into_inner();
         Ok(Range { from, to })
     }
 }
@@ -61,10 +60,9 @@ impl Parser<'_> {
     fn span_ends(&mut self) -> Result<Span, Stop>
         ensures { Takes (λ fuel. statements.span_ends fuel) (point_of self.old) result (point_of self.new) }
     {
-        let from = self.boxed_whole()?;
+        let from = self.whole()?;
         self.expect(Symbol::Range)?;
         let to = self.whole()?;
-        let from = from.into_inner();
         Ok(Span { from, to })
     }
 
@@ -74,6 +72,7 @@ impl Parser<'_> {
     {
         let outside = self.enter(Symbol::OpenSquare)?;
         let span = self.span_ends()?;
-        followed(span, self.leave(Symbol::CloseSquare, outside))
+        self.leave(Symbol::CloseSquare, outside)?;
+        Ok(span)
     }
 }

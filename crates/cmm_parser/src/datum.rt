@@ -5,20 +5,19 @@ ghost use Rattle.cmm_grammar.specs.StatementReading.{block};
 ghost use Rattle.cmm_grammar.specs.UnitReading as readers;
 ghost use Rattle.cmm_parser.specs.inside.Parsing.{Takes, MayTake, point_of};
 
-use crate::fault::{Stop, both, followed};
+use crate::fault::Stop;
 use crate::parser::Parser;
 use crate::types::named_type;
 use cmm_ast::{Count, Datum, DatumForm, Expr, Ident, Initial, Item, TypeName};
-use cmm_items::Boxed;
 use cmm_lexer::{Keyword, Symbol};
 
 /// How many values there are, by what stands in the square brackets.
-fn count_of(count: Option<Boxed<Expr>>) -> Count
+fn count_of(count: Option<Expr>) -> Count
     ensures { result ≡ readers.count_of count }
 {
     match count {
         None => Count::OfInitial,
-        Some(count) => Count::Of(count.into_inner()),
+        Some(count) => Count::Of(count),
     }
 }
 
@@ -31,13 +30,13 @@ fn datum_at(token: u32, form: DatumForm) -> Item
 
 impl Parser<'_> {
     /// What stands in the square brackets.
-    fn count_in(&mut self) -> Result<Option<Boxed<Expr>>, Stop>
+    fn count_in(&mut self) -> Result<Option<Expr>, Stop>
         ensures { MayTake (λ fuel. readers.count_in fuel) (point_of self.old) result (point_of self.new) }
     {
         if self.is_symbol(Symbol::CloseSquare) {
             Ok(None)
         } else {
-            Ok(Some(self.boxed_whole()?))
+            Ok(Some(self.whole()?))
         }
     }
 
@@ -82,9 +81,8 @@ impl Parser<'_> {
         ensures { Takes (λ fuel. readers.values_of fuel width) (point_of self.old) result (point_of self.new) }
     {
         let count = self.count()?;
-        let values = both(count, self.initial())?;
-        let values = followed(values, self.expect(Symbol::Semicolon))?;
-        let (count, initial) = values;
+        let initial = self.initial()?;
+        self.expect(Symbol::Semicolon)?;
         Ok(DatumForm::Data {
             width,
             count,

@@ -273,9 +273,8 @@ impl Parser<'_> {
         let head = self.head()?;
         let (width, name) = self.typed_name_by(head)?;
         self.expect(Symbol::Assign)?;
-        let value = self.boxed_whole()?;
+        let value = self.whole()?;
         self.expect(Symbol::Semicolon)?;
-        let value = value.into_inner();
         Ok(DeclForm::Const { width, name, value })
     }
 

@@ -1,6 +1,6 @@
 //! Why tokens are no unit.
 
-ghost use Rattle.std.specs.Prelude.{◌≡◌, Ok, Err, MatchResult};
+ghost use Rattle.std.specs.Prelude.{◌≡◌};
 
 use cmm_rules::Rule;
 use std::alloc::{AllocError, AllocFailed};
@@ -76,21 +76,4 @@ impl From<AllocError> for SyntaxFault {
     fn from(_: AllocError) -> SyntaxFault {
         SyntaxFault::Memory
     }
-}
-
-/// What was parsed, and what was tried behind it: where that is refused, what was parsed is dropped here, and not at each place that
-/// hands a fault on.
-pub(crate) fn both<A: Drop, B: Drop, E: Drop>(first: A, second: Result<B, E>) -> Result<(A, B), E>
-    ensures { MatchResult result (λ pair. (pair.0 ≡ first) × (second ≡ Ok pair.1)) (λ fault. second ≡ Err fault) }
-{
-    let second = second?;
-    Ok((first, second))
-}
-
-/// What was parsed, where what stands behind it was right.
-pub(crate) fn followed<A: Drop, E: Drop>(first: A, behind: Result<(), E>) -> Result<A, E>
-    ensures { MatchResult result (λ value. (value ≡ first) × (behind ≡ Ok tt)) (λ fault. behind ≡ Err fault) }
-{
-    behind?;
-    Ok(first)
 }

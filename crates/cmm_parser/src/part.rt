@@ -13,7 +13,7 @@ ghost use Rattle.cmm_grammar.specs.PartReading as parts;
 ghost use Rattle.cmm_grammar.specs.StatementReading as readers;
 ghost use Rattle.cmm_parser.specs.inside.Parsing.{Takes, MayTake, point_of};
 
-use crate::fault::{Stop, both, followed};
+use crate::fault::Stop;
 use crate::parser::Parser;
 use crate::types::named_type;
 use cmm_ast::{
@@ -269,9 +269,8 @@ impl Parser<'_> {
         ensures { Takes (λ fuel. readers.return_form fuel) (point_of self.old) result (point_of self.new) }
     {
         let exit = self.optional_exit()?;
-        let left = both(exit, self.optional_arguments())?;
-        let left = followed(left, self.expect(Symbol::Semicolon))?;
-        let (exit, values) = left;
+        let values = self.optional_arguments()?;
+        self.expect(Symbol::Semicolon)?;
         Ok(StmtForm::Return { exit, values })
     }
 
@@ -311,9 +310,8 @@ impl Parser<'_> {
         ensures { Takes (λ fuel. readers.jump fuel) (point_of self.old) result (point_of self.new) }
     {
         let callee = self.callee()?;
-        let called = both(callee, self.arguments())?;
-        let called = followed(called, self.expect(Symbol::Semicolon))?;
-        let (callee, actuals) = called;
+        let actuals = self.arguments()?;
+        self.expect(Symbol::Semicolon)?;
         Ok(StmtForm::Jump { callee, actuals })
     }
 
@@ -323,9 +321,8 @@ impl Parser<'_> {
     {
         self.expect_word(Keyword::To)?;
         let callee = self.callee()?;
-        let called = both(callee, self.arguments())?;
-        let (called, flows) = both(called, self.last_annotations())?;
-        let (callee, actuals) = called;
+        let actuals = self.arguments()?;
+        let flows = self.last_annotations()?;
         Ok(StmtForm::Cut {
             callee,
             actuals,

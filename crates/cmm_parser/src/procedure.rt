@@ -2,7 +2,6 @@
 
 ghost use Rattle.std.specs.Prelude.{◌≡◌, ◌-◌, ◌<◌, ◌≤◌, None, Ok, length, OnOk};
 ghost use Rattle.cmm_lexer.specs.declared.symbol.Symbol.{Symbol};
-ghost use Rattle.cmm_ast.specs.declared.procedure.RoomForm.TheVariants as rooms;
 ghost use Rattle.cmm_grammar.specs.Reading.{next, passes};
 ghost use Rattle.cmm_grammar.specs.Reading as tokens;
 ghost use Rattle.cmm_grammar.specs.ExpressionReading.{whole};
@@ -16,7 +15,7 @@ use crate::list::Listed;
 use crate::parser::Parser;
 use crate::types::named_type;
 use cmm_ast::{Expr, Formal, Ident, LocalForm, Modifiers, Proc, Room, RoomForm, Text, TypeName};
-use cmm_items::{Boxed, Items};
+use cmm_items::Items;
 use cmm_lexer::{Keyword, Symbol, TokenKind};
 
 impl Listed for Formal {
@@ -69,19 +68,6 @@ fn invariant_by(first: u32, kind: Option<Text>) -> Modifiers
     match kind {
         Some(kind) => Modifiers::InvariantKind(first, kind),
         None => Modifiers::Invariant(first),
-    }
-}
-
-/// Room for values of this type, by what stands in the square brackets.
-fn room_of(width: TypeName, count: Option<Boxed<Expr>>) -> RoomForm
-    ensures { result ≡ rooms.Data width count }
-{
-    match count {
-        Some(count) => RoomForm::Data {
-            width,
-            count: Some(count.into_inner()),
-        },
-        None => RoomForm::Data { width, count: None },
     }
 }
 
@@ -141,16 +127,16 @@ impl Parser<'_> {
     }
 
     /// How many values there is room for, in its brackets.
-    fn room_size(&mut self) -> Result<Boxed<Expr>, Stop>
+    fn room_size(&mut self) -> Result<Expr, Stop>
         ensures { Takes (λ fuel. tokens.square (whole fuel)) (point_of self.old) result (point_of self.new) }
     {
         let outside = self.enter(Symbol::OpenSquare)?;
-        let size = self.boxed_whole()?;
+        let size = self.whole()?;
         self.leave(Symbol::CloseSquare, outside)?;
         Ok(size)
     }
 
-    fn room_count(&mut self) -> Result<Option<Boxed<Expr>>, Stop>
+    fn room_count(&mut self) -> Result<Option<Expr>, Stop>
         ensures { MayTake (λ fuel. readers.room_count fuel) (point_of self.old) result (point_of self.new) }
     {
         if self.is_symbol(Symbol::OpenSquare) {
@@ -166,7 +152,7 @@ impl Parser<'_> {
     {
         let count = self.room_count()?;
         self.expect(Symbol::Semicolon)?;
-        Ok(room_of(width, count))
+        Ok(RoomForm::Data { width, count })
     }
 
     /// A label, or room for values of the type of this name.

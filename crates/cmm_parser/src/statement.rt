@@ -11,7 +11,7 @@ ghost use Rattle.cmm_grammar.specs.StatementReading as readers;
 ghost use Rattle.cmm_grammar.specs.StatementReading.{is_within};
 ghost use Rattle.cmm_parser.specs.inside.Parsing.{Takes, MayTake, TakesBlocks, MayTakeBlocks, TakesChain, MayTakeChain, point_of};
 
-use crate::fault::{Stop, both};
+use crate::fault::Stop;
 use crate::parser::Parser;
 use cmm_ast::{Arm, Block, Expr, Local, Otherwise, Part, Primary, Span, Stmt, StmtForm};
 use cmm_grammar::PartForm;
@@ -234,9 +234,8 @@ impl Parser<'_> {
         ensures { TakesBlocks readers.switch_form (point_of self.old) result (point_of self.new) }
     {
         let range = self.optional_span()?;
-        let head = both(range, self.boxed_whole())?;
-        let (head, arms) = both(head, self.braced_arms())?;
-        let (range, value) = head;
+        let value = self.boxed_whole()?;
+        let arms = self.braced_arms()?;
         Ok(boxed_switch(self.alloc, range, value, arms)?)
     }
 

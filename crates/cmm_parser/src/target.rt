@@ -9,13 +9,13 @@ ghost use Rattle.cmm_grammar.specs.TargetReading as readers;
 ghost use Rattle.cmm_grammar.specs.declared.told_apart.Targets.TheVariants.{Names};
 ghost use Rattle.cmm_parser.specs.inside.Parsing.{Takes, MayTake, point_of};
 
-use crate::fault::{Stop, both};
+use crate::fault::Stop;
 use crate::list::Listed;
 use crate::parser::Parser;
 use crate::types::named_type;
 use cmm_ast::{Callee, CalleeForm, Expr, ExprForm, Ident, Kinded, Lvalue, PrimForm, StmtForm};
 use cmm_grammar::Targets;
-use cmm_items::{Boxed, Items};
+use cmm_items::Items;
 use cmm_lexer::{Keyword, Symbol, TokenKind};
 use cmm_words::Name;
 use std::alloc::{AllocError, Global};
@@ -235,8 +235,9 @@ impl Parser<'_> {
     {
         match form {
             Some(form) => {
-                let (form, results) = both(form, results_of(self.alloc, names))?;
-                self.call(results, None, Callee { token, form })
+                let callee = Callee { token, form };
+                let results = results_of(self.alloc, names)?;
+                self.call(results, None, callee)
             }
             None => Err(self.unexpected()),
         }
@@ -261,17 +262,17 @@ impl Parser<'_> {
     }
 
     /// Two values with a comma between them.
-    fn two_values(&mut self) -> Result<(Boxed<Expr>, Boxed<Expr>), Stop>
+    fn two_values(&mut self) -> Result<(Expr, Expr), Stop>
         ensures { Takes (λ fuel. readers.two_values fuel) (point_of self.old) result (point_of self.new) }
     {
-        let left = self.boxed_whole()?;
+        let left = self.whole()?;
         self.expect(Symbol::Comma)?;
-        let right = self.boxed_whole()?;
+        let right = self.whole()?;
         Ok((left, right))
     }
 
     /// The operands of a checked operator, in their brackets.
-    fn checked_operands(&mut self) -> Result<(Boxed<Expr>, Boxed<Expr>), Stop>
+    fn checked_operands(&mut self) -> Result<(Expr, Expr), Stop>
         ensures { Takes (λ fuel. round (readers.two_values fuel)) (point_of self.old) result (point_of self.new) }
     {
         let outside = self.enter(Symbol::Open)?;
@@ -297,8 +298,6 @@ impl Parser<'_> {
         let operator = self.checked_operator()?;
         let (left, right) = self.checked_operands()?;
         let flows = self.last_annotations()?;
-        let left = left.into_inner();
-        let right = right.into_inner();
         Ok(StmtForm::Checked {
             result: name,
             operator,

@@ -120,9 +120,8 @@ impl Parser<'_> {
         let token = self.here();
         self.expect_word(Keyword::Span)?;
         let key = self.whole_prim()?;
-        let value = self.boxed_whole()?;
+        let value = self.whole()?;
         let items = self.in_braces()?;
-        let value = value.into_inner();
         Ok(Item::Span {
             token,
             key,

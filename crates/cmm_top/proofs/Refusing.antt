@@ -1,4 +1,4 @@
--- What is said of a fault that a layer below names.
+-- What is said of a fault that a layer below names, and of units that have no image.
 use Rattle.std.proofs.Common.{◌≡◌, List, ℕ, Option, None, inl, inr, refl, subst, sym}
 use Rattle.std.specs.Prelude.{◌⊎◌}
 use Rattle.cmm_static_semantics.specs.declared.fault.Fault.{Fault}
@@ -10,24 +10,16 @@ use Rattle.cmm_front.specs.declared.fault.FrontFault.TheVariants.{At, Memory}
 use Rattle.cmm_front.specs.Refusing.{BreaksLexis, IsFaultOf, IsRefused as IsRefusedAtFront}
 use Rattle.cmm_outside.specs.Storage.{Contents}
 use Rattle.cmm_work.specs.Standing.{Outside}
+use Rattle.cmm_work.specs.Ending.{work_of}
 use Rattle.cmm_work.specs.Files.{HasUnits}
-use Rattle.cmm_top.specs.Units.{IsRefused}
 use Rattle.cmm_work.specs.Work.{RanOutOfMemory}
 use Rattle.cmm_work.specs.declared.ending.Ending.{Ending}
 use Rattle.cmm_work.specs.declared.ending.Ending.TheVariants as ending
-use Rattle.cmm_top.specs.inside.Refusals.{Refuses}
-use Rattle.cmm_work.specs.Ending.{work_of}
-use Rattle.std.proofs.Common.{◌≡◌, ℕ, List, Option, None, inl, inr, refl, sym, subst}
-use Rattle.cmm_outside.specs.Storage.{Contents}
-use Rattle.cmm_work.specs.declared.reading.ReadFault.TheVariants.{Memory}
+use Rattle.cmm_work.proofs.Shared.{ran_out}
+use Rattle.cmm_top.specs.Units.{HaveFault, IsRefused}
 use Rattle.cmm_top.specs.declared.sources.Sources.{Sources}
-use Rattle.cmm_work.specs.Running.{IsRefused}
-use Rattle.cmm_top.specs.Units.{HaveFault, IsRefused as AreRefused}
-use Rattle.cmm_top.specs.inside.Refusals.{LackImage}
 use Rattle.cmm_top.specs.inside.Reading.{AreRead, AreUnits}
-use Rattle.cmm_work.proofs.Shared.{ran_out}
-use Rattle.cmm_top.proofs.Refusing.{fault_in, is_refused}
-use Rattle.cmm_work.proofs.Shared.{ran_out}
+use Rattle.cmm_top.specs.inside.Refusals.{LackImage, Refuses}
 
 pub lexis_is : (units : List (List ℕ)) (e : FrontFault) → IsRefusedAtFront (BreaksLexis units) e → IsRefusedBy (IsFaultOf units) (of_front e)
 lexis_is units (At f) broken = inl broken
@@ -80,7 +72,7 @@ fault_in contents names build.Memory has = tt
 -- what was read has no image
 pub no_image : (names : List (List ℕ)) (before after : Outside) (sources : Sources) (end : Ending) → after ≡ before → AreRead before.files names sources →
     ((units : List (List ℕ)) → AreUnits units sources → LackImage names units end) →
-    AreRefused names (HaveFault names (work_of end None before after)) (work_of end None before after) ⊎ RanOutOfMemory (work_of end None before after)
+    IsRefused names (HaveFault names (work_of end None before after)) (work_of end None before after) ⊎ RanOutOfMemory (work_of end None before after)
 no_image names before after sources end same (units, hold, are) lack =
     let l = lack units are in
     is_refused names (λ f. HaveFault names (work_of end None before after) f) before after l.fault end same l.refuses (fault_in before.files names l.fault (units, hold, l.cause))

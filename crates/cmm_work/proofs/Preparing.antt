@@ -8,12 +8,10 @@ use Rattle.cmm_image.specs.Images.{IsFirstFault as IsFirstImageFault, SpellsImag
 use Rattle.cmm_image.specs.declared.parts.ImageParts.{ImageParts}
 use Rattle.cmm_image.specs.declared.reading.TheConstants.{IMAGE_LIMIT}
 use Rattle.cmm_outside.specs.Faults.{Rose}
-use Rattle.cmm_outside.specs.Storage.{Contents, FailedCall}
+use Rattle.cmm_outside.specs.Storage.{FailedCall}
 use Rattle.cmm_rules.specs.declared.rule.Rule.{Rule}
 use Rattle.cmm_script.specs.Faults.{IsFirstFault}
 use Rattle.cmm_script.specs.declared.reader.TheConstants.{SCRIPT_LIMIT}
-use Rattle.cmm_script.specs.declared.script.Script.{Script}
-use Rattle.cmm_script.specs.Spelling.{SpellsScript}
 use Rattle.cmm_snapshot.specs.declared.reading.TheConstants.{SNAPSHOT_LIMIT}
 use Rattle.cmm_work.specs.declared.ending.Ending.{Ending}
 use Rattle.cmm_work.specs.declared.ending.Ending.TheVariants as ending
@@ -25,12 +23,12 @@ use Rattle.cmm_work.specs.Standing.{Outside}
 use Rattle.cmm_work.specs.Files.{FailsToRead, HasBytes}
 use Rattle.cmm_work.specs.Inspecting.{IsNoElfFile}
 use Rattle.cmm_work.specs.Running.{IsRefused, IsRefusedFor}
-use Rattle.cmm_work.specs.Script.{HasScript, HoldsNoScript}
+use Rattle.cmm_work.specs.Script.{HoldsNoScript}
 use Rattle.cmm_work.specs.Walking.{HasBadSnapshot}
 use Rattle.cmm_work.specs.Work.{RanOutOfMemory}
 use Rattle.cmm_work.specs.inside.Faults.{IsFaultIn, IsNotElf, IsNotImage, IsNotSnapshot}
 use Rattle.cmm_work.specs.Ending.{IsRefusedScript, IsUnread, work_of}
-use Rattle.cmm_work.specs.Reading.{IsClientRead, IsFileOf, IsScriptRead, ReadsOrFails}
+use Rattle.cmm_work.specs.Reading.{IsClientRead, IsFileOf, ReadsOrFails}
 use Rattle.cmm_work.proofs.RanOut.{ran_out}
 
 -- ---- reading
@@ -168,14 +166,6 @@ pub holds_no_elf : (name : List ℕ) (before after : Outside) (read : FileBytes)
 holds_no_elf name before after read end same (bytes, there, is) lacks = not_elf name bytes before after end same there (lacks bytes is)
 
 -- ---- a script
-
-pub script_is : (contents : Option Contents) (client : Option (List ℕ)) (read : Option FileBytes) (script : Script) → IsClientRead contents client read → IsScriptRead read script →
-    HasScript contents client script
-script_is contents None None script was is = is
-script_is contents (Some name) (Some (Whole bytes)) script (file, there, same) is = (file, there, subst (λ (bs : List ℕ). SpellsScript bs script) same is)
-script_is contents (Some name) (Some TooLong) script was is = absurd is
-script_is contents None (Some read) script was is = absurd was
-script_is contents (Some name) None script was is = absurd was
 
 refused_script : (name : List ℕ) (before after : Outside) (read : FileBytes) (end : Ending) → after ≡ before → HasBytes before.files name (λ bytes. IsFileOf SCRIPT_LIMIT bytes read) →
     IsRefusedScript (Some read) end → HoldsNoScript (Some name) (work_of end None before after) ⊎ RanOutOfMemory (work_of end None before after)

@@ -70,10 +70,9 @@ span-returns-in_err-items t c =
 
 pub span-returns : goal.span-returns
 span-returns t c =
-    rw c.into_inner-value.ensures
-    (from_here span_at c.here-token.ensures
+    from_here span_at c.here-token.ensures
     (steps_below (λ _. after_word c.here-token.result) c.in_ok-expect_word.ensures
-    (steps _ c.in_ok-key.ensures (steps _ c.in_ok-value.ensures (steps _ c.in_ok-items.ensures gives)))))
+    (steps _ c.in_ok-key.ensures (steps _ c.in_ok-value.ensures (steps _ c.in_ok-items.ensures gives))))
 
 -- ---- any item
 

@@ -1,4 +1,4 @@
-use Rattle.std.proofs.Common.{◌∙◌, [], List, ap, rules, arith, ℕ, suc, length}
+use Rattle.std.proofs.Common.{◌∙◌, [], List, ap, rules, arith, ℕ}
 use Rattle.cmm_lexer.specs.declared.symbol.Symbol.TheVariants.{OpenBrace, CloseBrace}
 use Rattle.cmm_ast.specs.declared.statement.Arm.{Arm}
 use Rattle.cmm_ast.specs.declared.statement.Otherwise.{Otherwise}
@@ -10,7 +10,7 @@ use Rattle.cmm_grammar.specs.declared.told_apart.PartForm.{PartForm}
 use Rattle.cmm_grammar.specs.Reading.{Reads, ◌>>=◌, give, here, many}
 use Rattle.cmm_grammar.specs.StatementReading as readers
 use Rattle.cmm_parser.specs.inside.Parsing.{chaining, point_of}
-use Rattle.cmm_parser.proofs.Steps.{handed, told, loosely, steps, stops, halts, stopped, gives, gives_same, holds, fails, takes, leaves, brackets, stops_opening, stops_inside, stops_closing, brackets_below, stops_inside_below, stops_closing_below}
+use Rattle.cmm_parser.proofs.Steps.{handed, loosely, steps, stops, halts, stopped, gives, gives_same, holds, fails, takes, leaves, brackets, stops_opening, stops_inside, stops_closing, brackets_below, stops_inside_below, stops_closing_below}
 use Rattle.cmm_parser.proofs.Loops.{many_turn, many_ends, many_breaks}
 use Rattle.cmm_parser.proofs.StatementSteps.{by_chain, by_depth, at_count, diagonal, after_here, encloses, stops_enclosed, by_turns, body_of, body_counts, block_counts, still_less, numbered_stmt, numbered_part}
 use Rattle.cmm_parser.proofs.parser.Parser.+statement.Goals as goal
@@ -314,36 +314,32 @@ pub switch_form-returns-in_err-range : goal.switch_form-returns-in_err-range
 switch_form-returns-in_err-range t c =
     by_depth (λ depth less. stops _ c.in_err-range.ensures (handed c.from_residual.ensures.1))
 
-pub switch_form-returns-in_err-head : goal.switch_form-returns-in_err-head
-switch_form-returns-in_err-head t c =
+pub switch_form-returns-in_err-value : goal.switch_form-returns-in_err-value
+switch_form-returns-in_err-value t c =
     by_depth (λ depth less.
-    steps _ c.in_ok-range.ensures (stops _ (told c.in_err-head.ensures c.boxed_whole.ensures) (handed c.from_residual-in_err-head.ensures.1)))
+    steps _ c.in_ok-range.ensures (stops _ c.in_err-value.ensures (handed c.from_residual-in_err-value.ensures.1)))
 
 pub switch_form-braced_arms-requires : goal.switch_form-braced_arms-requires
 switch_form-braced_arms-requires t c =
     let range = c.in_ok-range.ensures.taken in
-    let taken = (told c.in_ok-head.ensures.1 c.boxed_whole.ensures).taken in
+    let taken = c.in_ok-value.ensures.taken in
     search rules
 
-pub switch_form-returns-in_err-head-2 : goal.switch_form-returns-in_err-head-2
-switch_form-returns-in_err-head-2 t c =
+pub switch_form-returns-in_err-arms : goal.switch_form-returns-in_err-arms
+switch_form-returns-in_err-arms t c =
     by_depth (λ depth less.
     let range = c.in_ok-range.ensures.taken in
-    let value = told c.in_ok-head.ensures.1 c.boxed_whole.ensures in
-    let taken = value.taken in
+    let taken = c.in_ok-value.ensures.taken in
     steps _ c.in_ok-range.ensures
-    (steps _ value (stops _ (told c.in_err-head-2.ensures (c.braced_arms.ensures.answers depth (omega arith))) (handed c.from_residual-in_err-head-2.ensures.1))))
+    (steps _ c.in_ok-value.ensures (stops _ (c.in_err-arms.ensures.answers depth (omega arith)) (handed c.from_residual-in_err-arms.ensures.1))))
 
 pub switch_form-returns : goal.switch_form-returns
 switch_form-returns t c =
     by_depth (λ depth less.
     let range = c.in_ok-range.ensures.taken in
-    let value = told c.in_ok-head.ensures.1 c.boxed_whole.ensures in
-    let taken = value.taken in
+    let taken = c.in_ok-value.ensures.taken in
     steps _ c.in_ok-range.ensures
-    (steps _ value
-    (steps _ (told c.in_ok-head-2.ensures.1 (c.braced_arms.ensures.answers depth (omega arith)))
-    (gives_same (rw (c.in_ok-head-2.ensures.0, c.in_ok-head.ensures.0) at c.in_ok-boxed_switch.ensures)))))
+    (steps _ c.in_ok-value.ensures (steps _ (c.in_ok-arms.ensures.answers depth (omega arith)) (gives_same c.in_ok-boxed_switch.ensures))))
 
 pub braced_arms-returns-in_err-outside : goal.braced_arms-returns-in_err-outside
 braced_arms-returns-in_err-outside t c =

@@ -10,4 +10,4 @@ pub returns-in_err-flows : goal.returns-in_err-flows
 returns-in_err-flows c = steps _ c.in_ok-operator.ensures (steps _ c.in_ok-left.ensures (stopped (stops_ending annotations _ c.in_err-flows.ensures) (handed c.from_residual-in_err-flows.ensures.1)))
 
 pub returns : goal.returns
-returns c = rw (c.into_inner-left.ensures, c.into_inner-right.ensures) (steps _ c.in_ok-operator.ensures (steps _ c.in_ok-left.ensures (ends annotations _ c.in_ok-flows.ensures)))
+returns c = steps _ c.in_ok-operator.ensures (steps _ c.in_ok-left.ensures (ends annotations _ c.in_ok-flows.ensures))

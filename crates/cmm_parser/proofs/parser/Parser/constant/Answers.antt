@@ -23,5 +23,5 @@ returns-in_err-expect-2 c =
 
 pub returns : goal.returns
 returns c =
-    rw c.into_inner-value.ensures (steps _ (steps _ c.in_ok-head.ensures c.in_ok-width.ensures)
-    (steps _ c.in_ok-expect.ensures (steps _ c.in_ok-value.ensures (steps _ c.in_ok-expect-2.ensures gives))))
+    steps _ (steps _ c.in_ok-head.ensures c.in_ok-width.ensures)
+    (steps _ c.in_ok-expect.ensures (steps _ c.in_ok-value.ensures (steps _ c.in_ok-expect-2.ensures gives)))

@@ -2,7 +2,7 @@ use Rattle.std.proofs.Common.{ℕ}
 use Rattle.cmm_ast.specs.declared.statement.Exit.{Exit}
 use Rattle.cmm_grammar.specs.Reading.{Reads, ◌>>=◌, give, symbol}
 use Rattle.cmm_grammar.specs.ExpressionReading.{whole_prim}
-use Rattle.cmm_parser.proofs.Steps.{handed, told, steps, stops, gives}
+use Rattle.cmm_parser.proofs.Steps.{handed, steps, stops, gives}
 use Rattle.cmm_parser.proofs.CallSteps.{at_token}
 use Rattle.cmm_lexer.specs.declared.symbol.Symbol.TheVariants.{Less, Slash, Greater}
 use Rattle.cmm_parser.proofs.parser.Parser.exit.Goals as goal
@@ -16,34 +16,26 @@ pub returns-in_err-index : goal.returns-in_err-index
 returns-in_err-index c =
     at_token exit_at c.here-token.ensures (steps _ c.in_ok-expect.ensures (stops _ c.in_err-index.ensures (handed c.from_residual-in_err-index.ensures.1)))
 
-pub returns-in_err-index-2 : goal.returns-in_err-index-2
-returns-in_err-index-2 c =
+pub returns-in_err-expect-2 : goal.returns-in_err-expect-2
+returns-in_err-expect-2 c =
+    at_token exit_at c.here-token.ensures
+    (steps _ c.in_ok-expect.ensures (steps _ c.in_ok-index.ensures (stops _ c.in_err-expect-2.ensures (handed c.from_residual-in_err-expect-2.ensures.1))))
+
+pub returns-in_err-count : goal.returns-in_err-count
+returns-in_err-count c =
     at_token exit_at c.here-token.ensures
     (steps _ c.in_ok-expect.ensures
-    (steps _ c.in_ok-index.ensures (stops _ (told c.in_err-index-2.ensures c.expect-2.ensures) (handed c.from_residual-in_err-index-2.ensures.1))))
+    (steps _ c.in_ok-index.ensures (steps _ c.in_ok-expect-2.ensures (stops _ c.in_err-count.ensures (handed c.from_residual-in_err-count.ensures.1)))))
 
-pub returns-in_err-ways : goal.returns-in_err-ways
-returns-in_err-ways c =
+pub returns-in_err-expect-3 : goal.returns-in_err-expect-3
+returns-in_err-expect-3 c =
     at_token exit_at c.here-token.ensures
     (steps _ c.in_ok-expect.ensures
     (steps _ c.in_ok-index.ensures
-    (steps _ (told c.in_ok-index-2.ensures.1 c.expect-2.ensures)
-    (stops _ (told c.in_err-ways.ensures c.whole_prim-2.ensures) (handed c.from_residual-in_err-ways.ensures.1)))))
-
-pub returns-in_err-ways-2 : goal.returns-in_err-ways-2
-returns-in_err-ways-2 c =
-    at_token exit_at c.here-token.ensures
-    (steps _ c.in_ok-expect.ensures
-    (steps _ c.in_ok-index.ensures
-    (steps _ (told c.in_ok-index-2.ensures.1 c.expect-2.ensures)
-    (steps _ (told c.in_ok-ways.ensures.1 c.whole_prim-2.ensures)
-    (stops _ (told c.in_err-ways-2.ensures c.expect-3.ensures) (handed c.from_residual-in_err-ways-2.ensures.1))))))
+    (steps _ c.in_ok-expect-2.ensures (steps _ c.in_ok-count.ensures (stops _ c.in_err-expect-3.ensures (handed c.from_residual-in_err-expect-3.ensures.1))))))
 
 pub returns : goal.returns
 returns c =
-    rw (c.in_ok-ways-2.ensures.0, c.in_ok-ways.ensures.0, c.in_ok-index-2.ensures.0)
-    (at_token exit_at c.here-token.ensures
+    at_token exit_at c.here-token.ensures
     (steps _ c.in_ok-expect.ensures
-    (steps _ c.in_ok-index.ensures
-    (steps _ (told c.in_ok-index-2.ensures.1 c.expect-2.ensures)
-    (steps _ (told c.in_ok-ways.ensures.1 c.whole_prim-2.ensures) (steps _ (told c.in_ok-ways-2.ensures.1 c.expect-3.ensures) gives))))))
+    (steps _ c.in_ok-index.ensures (steps _ c.in_ok-expect-2.ensures (steps _ c.in_ok-count.ensures (steps _ c.in_ok-expect-3.ensures gives)))))

@@ -1,19 +1,14 @@
-use Rattle.cmm_parser.proofs.Steps.{handed, told, steps, stops, gives}
+use Rattle.cmm_parser.proofs.Steps.{handed, steps, stops, gives}
 use Rattle.cmm_parser.proofs.parser.Parser.jump.Goals as goal
 
 pub returns-in_err-callee : goal.returns-in_err-callee
 returns-in_err-callee c = stops _ c.in_err-callee.ensures (handed c.from_residual.ensures.1)
 
-pub returns-in_err-called : goal.returns-in_err-called
-returns-in_err-called c = steps _ c.in_ok-callee.ensures (stops _ (told c.in_err-called.ensures c.arguments.ensures) (handed c.from_residual-in_err-called.ensures.1))
+pub returns-in_err-actuals : goal.returns-in_err-actuals
+returns-in_err-actuals c = steps _ c.in_ok-callee.ensures (stops _ c.in_err-actuals.ensures (handed c.from_residual-in_err-actuals.ensures.1))
 
-pub returns-in_err-called-2 : goal.returns-in_err-called-2
-returns-in_err-called-2 c =
-    steps _ c.in_ok-callee.ensures
-    (steps _ (told c.in_ok-called.ensures.1 c.arguments.ensures) (stops _ (told c.in_err-called-2.ensures c.expect.ensures) (handed c.from_residual-in_err-called-2.ensures.1)))
+pub returns-in_err-expect : goal.returns-in_err-expect
+returns-in_err-expect c = steps _ c.in_ok-callee.ensures (steps _ c.in_ok-actuals.ensures (stops _ c.in_err-expect.ensures (handed c.from_residual-in_err-expect.ensures.1)))
 
 pub returns : goal.returns
-returns c =
-    rw (c.in_ok-called-2.ensures.0, c.in_ok-called.ensures.0)
-    (steps _ c.in_ok-callee.ensures
-    (steps _ (told c.in_ok-called.ensures.1 c.arguments.ensures) (steps _ (told c.in_ok-called-2.ensures.1 c.expect.ensures) gives)))
+returns c = steps _ c.in_ok-callee.ensures (steps _ c.in_ok-actuals.ensures (steps _ c.in_ok-expect.ensures gives))

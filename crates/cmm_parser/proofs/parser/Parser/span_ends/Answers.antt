@@ -11,4 +11,4 @@ pub returns-in_err-to : goal.returns-in_err-to
 returns-in_err-to c = steps _ c.in_ok-from.ensures (steps _ c.in_ok-expect.ensures (stops _ c.in_err-to.ensures (handed c.from_residual-in_err-to.ensures.1)))
 
 pub returns : goal.returns
-returns c = rw c.into_inner-from.ensures (steps _ c.in_ok-from.ensures (steps _ c.in_ok-expect.ensures (steps _ c.in_ok-to.ensures gives)))
+returns c = steps _ c.in_ok-from.ensures (steps _ c.in_ok-expect.ensures (steps _ c.in_ok-to.ensures gives))
