@@ -1,13 +1,50 @@
--- Simulations and followings compose, where what the steps of B cost when it follows is what they may cost when it is followed.
-use Rattle.std.proofs.Common.{ℕ, suc, sym, ◌∙◌, arith}
+-- Followings and simulations compose, where what the steps of B cost when it follows is what they may cost when it is followed. The slacks of followings are multiplied; the ranks of
+-- simulations add up where the first one's does not rise while the second may pass steps over.
+use Rattle.std.proofs.Common.{◌≡◌, ◌⊎◌, ℕ, zero, suc, ◌+◌, ◌-◌, ◌*◌, ◌<◌, ◌≤◌, inl, inr, refl, sym, ◌∙◌, subst, arith, mul-le-mul_left, nat_lt}
+use Rattle.std.proofs.Math.Nat.{mul_assoc}
+use Rattle.std.proofs.lemmas.Bool.Decides.{nat_tests}
+use Rattle.std.specs.Prelude.{Bool, true, false, min}
 use Rattle.cmm_simulation.proofs.Paths.{weaker}
 use Rattle.cmm_simulation.proofs.Prefixes.{within_trans}
-use Rattle.cmm_simulation.proofs.Runs.{right_until}
-use Rattle.cmm_simulation.proofs.Simulations.{run_leads}
-use Rattle.cmm_simulation.specs.Following.{Follows}
-use Rattle.cmm_simulation.specs.Machine.{Machine, Lasts, after}
+use Rattle.cmm_simulation.proofs.Simulations.{each_leads, run_leads, stepwise}
+use Rattle.cmm_simulation.specs.Following.{FollowsLazily}
+use Rattle.cmm_simulation.specs.Machine.{Machine, IsRightUntil, after, spent}
 use Rattle.cmm_simulation.specs.Observing.{Level, Passes}
-use Rattle.cmm_simulation.specs.Simulation.{Simulates, Through}
+use Rattle.cmm_simulation.specs.Simulation.{Below, Leads, Simulates, SimulatesLazily, Through}
+
+-- ---- numbers that ascend
+
+module _ (f : ℕ → ℕ) where
+  ascends_from : ((m : ℕ) → f m ≤ f (suc m)) → (steps m : ℕ) → f m ≤ f (m + steps)
+  ascends_from ascends zero m = let same : m + 0 ≡ m = omega arith in subst (λ (k : ℕ). f m ≤ f k) (sym same) (omega arith)
+  ascends_from ascends (suc steps) m =
+      let same : suc (m + steps) ≡ m + suc steps = omega arith in
+      let before = ascends_from ascends steps m in
+      let last = ascends (m + steps) in
+      subst (λ (k : ℕ). f m ≤ f k) same (omega (arith, before, last))
+
+  -- the number between whose values another one lies
+  record Between (low high n : ℕ) : Type 0 where
+    at : ℕ
+    from : low ≤ at
+    to : at < high
+    least : f at ≤ n
+    most : n < f (suc at)
+
+  between : (n steps low : ℕ) → f low ≤ n → n < f (low + steps) → Between low (low + steps) n
+  between n zero low le less = let same : low + 0 ≡ low = omega arith in let none = subst (λ (k : ℕ). n < f k) same less in absurd (omega (arith, none, le))
+  between n (suc steps) low le less = by (nat_lt n (f (suc low))) refl (λ further. between n steps (suc low) further (subst (λ (k : ℕ). n < f k) same less))
+    where
+      same : low + suc steps ≡ suc low + steps
+      same = omega arith
+
+      by : (test : Bool) → nat_lt n (f (suc low)) ≡ test → (f (suc low) ≤ n → Between (suc low) (suc low + steps) n) → Between low (low + suc steps) n
+      by true is go = record { at = low; from = omega arith; to = omega arith; least = le; most = grind (arith, nat_tests, is) }
+      by false is go =
+          let further = go (grind (arith, nat_tests, is)) in
+          record { at = further.at; from = omega (arith, further.from); to = omega (arith, further.to); least = further.least; most = further.most }
+
+-- ---- what is seen side by side
 
 module _ {S T U L C E : Type 0} {A : Machine S L C E} {B : Machine T L C E} {D : Machine U L C E} where
   -- what is passed while something is passed is passed
@@ -15,39 +52,123 @@ module _ {S T U L C E : Type 0} {A : Machine S L C E} {B : Machine T L C E} {D :
   passes_trans p q =
       record { seen = within_trans q.seen p.seen; asks = λ event is. grind (arith, p.asks, q.asks); right = λ is. q.right (p.right is) }
 
-  -- a simulation and then another
-  pub simulates_trans : {a : S → ℕ} {b : T → ℕ} {d : U → ℕ} {R : S → T → Type 0} {Q : T → U → Type 0} → Simulates A a B b R →
-      Simulates B b D d Q → Simulates A a D d (Through R Q)
-  simulates_trans first second = record {
-    level = λ s u is. grind (arith, first.level s is.0 is.1, second.level is.0 u is.2);
-    leads = λ s u is right.
-        let path = first.leads s is.0 is.1 right in
-        weaker
-        (run_leads second is.2 path.steps (λ i less. let p = path.through i less in (p.right right, λ v. passes_trans p)))
-        (λ v p. p) (λ v q. (after B path.steps is.0, path.arrives, q)) path.enough (λ n le. omega (arith, path.within));
-  }
+  level_trans : {s : S} {t : T} {u : U} → Level A B s t → Level B D t u → Level A D s u
+  level_trans p q = record { seen = p.seen ∙ q.seen; asks = p.asks ∙ q.asks; wrong = p.wrong ∙ q.wrong }
 
-  -- following what follows
-  pub follows_trans : {a : S → ℕ} {b : T → ℕ} {d : U → ℕ} {s : S} {t : T} {u : U} → Follows A a B b s t → Follows B b D d t u → Follows A a D d s u
-  follows_trans first second = record {
-    leads = λ m right.
-        let path = first.leads m right in
-        weaker (second.leads path.steps (sym path.arrives.wrong ∙ right))
-        (λ v p. let q = path.through p.0 p.1 in (q.0, q.1, passes_trans q.2 p.2)) (λ v level. grind (arith, path.arrives))
-        path.enough (λ n le. omega (arith, path.within));
-  }
+-- ---- following what follows
 
--- Following and then a simulation. What is passed on the way is right where the first machine is, so nothing is required of how long the second stays wrong.
-module _ {S T U L C E : Type 0} {A : Machine S L C E} {B : Machine T L C E} {D : Machine U L C E} {a : S → ℕ} {b : T → ℕ} {d : U → ℕ} {R : T → U → Type 0} where
-  pub follows_simulated : {s : S} {t : T} {u : U} → Lasts A → Follows A a B b s t → Simulates B b D d R → R t u → Follows A a D d s u
-  follows_simulated {s = s} {t = t} lasts first second start = record {
-    leads = λ m right.
-        let path = first.leads m right in
-        weaker
-        (run_leads second start path.steps (λ i less. let p = path.through i less in
-        (p.2.right (right_until A lasts (suc p.0) m s (omega (arith, p.1)) right), λ v passes. (p.0, p.1, passes_trans p.2 passes))))
-        (λ v p. p) (λ v related. levels path.arrives (second.level (after B path.steps t) v related)) path.enough (λ n le. omega (arith, le, path.within));
+module _ {S T L C E : Type 0} {A : Machine S L C E} {B : Machine T L C E} {a : S → ℕ} {b : T → ℕ} {slack : ℕ} {s : S} {t : T} where
+  -- what is passed on the way, and what is arrived at, is right where the first machine is
+  pub right_too : (follows : FollowsLazily A a B b slack s t) → (m : ℕ) → IsRightUntil A m s → IsRightUntil B (follows.done m) t
+  right_too follows zero right i le =
+      let same : follows.done 0 ≡ i = omega (arith, le, follows.begins) in
+      subst (λ (k : ℕ). B.wrong (after B k t) ≡ false) same (sym (follows.level 0 right).wrong ∙ right 0 (omega arith))
+  right_too follows (suc m) right i le = by (right_too follows m (λ k before. right k (omega (arith, before)))) (grind arith)
+    where
+      later : (i : ℕ) → i ≤ follows.done (suc m) → follows.done m < i → B.wrong (after B i t) ≡ false
+      later zero below past = absurd (omega (arith, past))
+      later (suc n) below past = (follows.passes m n right (omega (arith, past)) (omega (arith, below))).right (right (suc m) (omega arith))
+
+      by : IsRightUntil B (follows.done m) t → (i ≤ follows.done m) ⊎ (follows.done m < i) → B.wrong (after B i t) ≡ false
+      by earlier (inl before) = earlier i before
+      by earlier (inr past) = later i le past
+
+module _ {S T U L C E : Type 0} {A : Machine S L C E} {B : Machine T L C E} {D : Machine U L C E} {a : S → ℕ} {b : T → ℕ} {d : U → ℕ} {j k : ℕ} {s : S} {t : T} {u : U} where
+  -- the steps of A that B does with one step are done with one of D as often as that does so many of B
+  pub lazily_trans : FollowsLazily A a B b j s t → FollowsLazily B b D d k t u → FollowsLazily A a D d (j * k) s u
+  lazily_trans first second = record {
+    done = λ m. second.done (first.done m);
+    begins = subst (λ (n : ℕ). second.done n ≡ 0) (sym first.begins) second.begins;
+    ascends = λ m. climbs (first.done m) (first.done (suc m)) (first.ascends m);
+    level = λ m right. level_trans (first.level m right) (second.level (first.done m) (right_too first m right));
+    passes = λ m n right le less.
+        let ascent = first.ascends m in
+        let height : first.done m + (first.done (suc m) - first.done m) ≡ first.done (suc m) = omega (arith, ascent) in
+        let found = between second.done n (first.done (suc m) - first.done m) (first.done m) le (subst (λ (i : ℕ). n < second.done i) (sym height) less) in
+        let passed = first.passes m found.at right found.from (omega (arith, found.to, height)) in
+        let on = right_too first (suc m) right in
+        passes_trans passed (second.passes found.at n (λ i early. on i (omega (arith, early, found.to, height))) found.least found.most);
+    within = λ m right. omega (arith, first.within m right, second.within (first.done m) (right_too first m right));
+    enough = λ m right.
+        let fewer = second.enough (first.done m) (right_too first m right) in
+        let more : j * suc (first.done m) ≤ j * (k * suc (second.done (first.done m))) = mul-le-mul_left j (omega (arith, fewer)) in
+        omega (arith, first.enough m right, more, mul_assoc j k (suc (second.done (first.done m))));
   }
     where
-      levels : {s : S} {t : T} {u : U} → Level A B s t → Level B D t u → Level A D s u
-      levels p q = record { seen = p.seen ∙ q.seen; asks = p.asks ∙ q.asks; wrong = p.wrong ∙ q.wrong }
+      climbs : (m n : ℕ) → m ≤ n → second.done m ≤ second.done n
+      climbs m n le =
+          let height : m + (n - m) ≡ n = omega (arith, le) in
+          subst (λ (i : ℕ). second.done m ≤ second.done i) height (ascends_from second.done second.ascends (n - m) m)
+
+-- ---- a simulation and then another
+
+module _ {S T U L C E : Type 0} {A : Machine S L C E} {B : Machine T L C E} {D : Machine U L C E} {a : S → ℕ} {b : T → ℕ} {d : U → ℕ} {j k : ℕ}
+    {R : ℕ → S → T → Type 0} {Q : ℕ → T → U → Type 0} (slack : ℕ) (added : j + k ≤ suc slack) (first : SimulatesLazily A a B b j R)
+    (second : SimulatesLazily B b D d k Q) where
+  abbrev Goes : ℕ → S → U → Type 0
+  Goes rank s u = Leads D d (Passes A D s) (Below slack (Through R Q) (A.step s)) 1 (a s) u ⊎ Below rank (Through R Q) (A.step s) u
+
+  -- a step that B passes over
+  over : (s : S) (t : T) (u : U) (i n rank : ℕ) → Q n t u → i + n ≡ rank → Below i R (A.step s) t → Goes rank s u
+  over s t u i n rank behind sum fallen =
+      inr (fallen.0 + n, omega (arith, sum, fallen.1), record { between = t; first = fallen.0; second = n; before = fallen.2; behind = behind; added = refl })
+
+  -- a step that B does is done by D, or passed over where the ranks have fallen together
+  done : (s : S) (t : T) (u : U) (n rank most : ℕ) → Q n t u → A.wrong (A.step s) ≡ false → most ≤ j →
+      (path : Leads B b (Passes A B s) (Below most R (A.step s)) 1 (a s) t) → ((left : ℕ) → left + path.steps ≤ n → path.arrives.0 + left < rank) → Goes rank s u
+  done s t u n rank most behind right few path falls =
+      by (run_leads {P = Passes A D s} second n behind path.steps (λ x less. let p = path.through x less in (p.right right, λ v q. passes_trans p q)))
+    where
+      by : Leads D d (Passes A D s) (Below k Q (after B path.steps t)) 1 (spent B b path.steps t) u ⊎ ((left : ℕ) × (left + path.steps ≤ n) × Q left (after B path.steps t) u) → Goes rank s u
+      by (inr passed) =
+          inr (
+            path.arrives.0 + passed.0,
+            falls passed.0 passed.1,
+            record { between = after B path.steps t; first = path.arrives.0; second = passed.0; before = path.arrives.2; behind = passed.2; added = refl },
+          )
+      by (inl run) =
+          inl
+          (weaker run (λ v p. p)
+          (λ v below. (
+            path.arrives.0 + below.0,
+            omega (arith, path.arrives.1, few, below.1, added),
+            record { between = after B path.steps t; first = path.arrives.0; second = below.0; before = path.arrives.2; behind = below.2; added = refl },
+          ))
+          (omega arith) (λ x within. omega (arith, within, path.within)))
+
+  -- Where D may pass over what B does, the rank of A does not rise with a step that B does.
+  abbrev pub IsFlat : Type 0
+  IsFlat = (i n : ℕ) (s : S) (t : T) (u : U) → R i s t → Q (suc n) t u → A.wrong (A.step s) ≡ false →
+      Leads B b (Passes A B s) (Below (min j (suc i)) R (A.step s)) 1 (a s) t ⊎ Below i R (A.step s) t
+
+  goes : IsFlat → (rank : ℕ) (s : S) (u : U) (t : T) (i n : ℕ) → R i s t → Q n t u → i + n ≡ rank → A.wrong (A.step s) ≡ false → Goes rank s u
+  goes flat rank s u t i zero before behind sum right = elim (first.leads i s t before right) [
+    | inl path ↦ done s t u 0 rank j behind right (omega arith) path (λ left le. absurd (omega (arith, le, path.enough)))
+    | inr fallen ↦ over s t u i 0 rank behind sum fallen
+  ]
+  goes flat rank s u t i (suc n) before behind sum right = elim (flat i n s t u before behind right) [
+    | inl path ↦ done s t u (suc n) rank (min j (suc i)) behind right (omega arith) path (λ left le. omega (arith, le, path.enough, path.arrives.1, sum))
+    | inr fallen ↦ over s t u i (suc n) rank behind sum fallen
+  ]
+
+  -- Then the ranks add up. Without that, those of the first rise again behind each step that the second passes over, and they multiply.
+  pub simulates_added : IsFlat → SimulatesLazily A a D d slack (Through R Q)
+  simulates_added flat = record {
+    level = λ rank s u is. level_trans (first.level is.first s is.between is.before) (second.level is.second is.between u is.behind);
+    leads = λ rank s u is right. goes flat rank s u is.between is.first is.second is.before is.behind is.added right;
+  }
+
+-- those that pass nothing over
+module _ {S T U L C E : Type 0} {A : Machine S L C E} {B : Machine T L C E} {D : Machine U L C E} {a : S → ℕ} {b : T → ℕ} {d : U → ℕ} {R : S → T → Type 0} {Q : T → U → Type 0} where
+  pub simulates_trans : Simulates A a B b R → Simulates B b D d Q → Simulates A a D d (λ s u. (t : T) × R s t × Q t u)
+  simulates_trans first second =
+      stepwise (λ s u is. level_trans (first.level 0 s is.0 is.1) (second.level 0 is.0 u is.2))
+      (λ s u is right. let path = each_leads first s is.0 is.1 right in by s is.0 u path right is.2
+      (run_leads {P = Passes A D s} second 0 is.2 path.steps (λ x less. let p = path.through x less in (p.right right, λ v q. passes_trans p q))))
+    where
+      by : (s : S) (t : T) (u : U) (path : Leads B b (Passes A B s) (R (A.step s)) 1 (a s) t) → A.wrong (A.step s) ≡ false → Q t u →
+          Leads D d (Passes A D s) (Below 1 (λ rank. Q) (after B path.steps t)) 1 (spent B b path.steps t) u ⊎ ((left : ℕ) × (left + path.steps ≤ 0) × Q (after B path.steps t) u) →
+          Leads D d (Passes A D s) (λ v. (t : T) × R (A.step s) t × Q t v) 1 (a s) u
+      by s t u path right behind (inl run) =
+          weaker run (λ v p. p) (λ v below. (after B path.steps t, path.arrives, below.2)) (omega arith) (λ n le. omega (arith, le, path.within))
+      by s t u path right behind (inr passed) = absurd (omega (arith, passed.1, path.enough))

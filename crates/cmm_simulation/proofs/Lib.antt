@@ -1,6 +1,7 @@
 pub mod Agreements
 pub mod Composing
 pub mod Followings
+pub mod LazyMachines
 pub mod Paths
 pub mod Prefixes
 mod Rows

@@ -5,6 +5,10 @@ use Rattle.cmm_simulation.specs.Machine.{Machine, after, spent}
 use Rattle.cmm_simulation.specs.Simulation.{Leads}
 
 module _ {S L C E : Type 0} {M : Machine S L C E} {cost : S → ℕ} {P Q : S → Type 0} {t : S} where
+  -- a path of no step
+  pub nowhere : {most : ℕ} → Q t → Leads M cost P Q 0 most t
+  nowhere here = record { steps = 0; through = λ i less. absurd (omega arith); arrives = here; enough = omega arith; within = omega arith }
+
   -- a path of one step
   pub one_step : {most : ℕ} → P t → Q (M.step t) → cost t ≤ most → Leads M cost P Q 1 most t
   one_step here there within =

@@ -20,3 +20,10 @@ ticks_go_on = refl
 
 steps_cost : spent (reader true) (λ _. 2) 7 (start (5 ∷ [])) ≡ 14
 steps_cost = refl
+
+-- of four ticks of ticks a reader makes one step, though each of the two machines passes over each second one alone: where ranks rise again, slacks multiply
+three_ticks_of_ticks : (ticking (ticking (reader true))).seen (after (ticking (ticking (reader true))) 3 ((start (5 ∷ []), false), false)) ≡ (reader true).seen (start (5 ∷ []))
+three_ticks_of_ticks = refl
+
+fourth_tick_of_ticks : ((ticking (ticking (reader true))).seen (after (ticking (ticking (reader true))) 4 ((start (5 ∷ []), false), false))).output ≡ 4 ∷ []
+fourth_tick_of_ticks = refl

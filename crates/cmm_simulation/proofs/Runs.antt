@@ -1,10 +1,10 @@
 -- Runs of one machine: how steps and costs add up, and what lasts.
 use Rattle.std.proofs.Common.{◌≡◌, ℕ, zero, suc, ◌+◌, ◌*◌, ◌≤◌, refl, ap, arith, add-zero, add-suc}
-use Rattle.std.proofs.Common.{inl, inr, subst}
+use Rattle.std.proofs.Common.{inl, inr, subst, sym}
 use Rattle.std.proofs.Math.Nat.{le-suc_iff}
 use Rattle.std.specs.Prelude.{true, false, Some}
 use Rattle.cmm_simulation.proofs.Prefixes.{within_refl, within_trans}
-use Rattle.cmm_simulation.specs.Machine.{Machine, Lasts, Stands, after, spent}
+use Rattle.cmm_simulation.specs.Machine.{Machine, IsRightUntil, Lasts, Stands, after, spent}
 use Rattle.cmm_simulation.specs.Seen.{Seen, IsWithin, End}
 
 module _ {S L C E : Type 0} (M : Machine S L C E) where
@@ -34,6 +34,15 @@ module _ {S L C E : Type 0} (M : Machine S L C E) where
   kept_until P keeps m (suc n) s le holds =
       elim (le-suc_iff.0 le) [ inl le ↦ keeps _ (kept_until P keeps m n s le holds) | inr e ↦ subst (λ k. P (after M k s)) e holds ]
 
+module _ {S L C E : Type 0} (M : Machine S L C E) where
+  -- a run that is right by some steps and after one more is right by then
+  pub right_further : (m : ℕ) (s : S) → IsRightUntil M m s → M.wrong (after M (suc m) s) ≡ false → IsRightUntil M (suc m) s
+  right_further m s right more i le =
+      elim (le-suc_iff.0 le) [ inl le ↦ right i le | inr e ↦ subst (λ k. M.wrong (after M k s) ≡ false) (sym e) more ]
+
+  pub right_at_start : (s : S) → M.wrong s ≡ false → IsRightUntil M 0 s
+  right_at_start s right i le = let e : i ≡ 0 = omega arith in subst (λ k. M.wrong (after M k s) ≡ false) (sym e) right
+
 module _ {S L C E : Type 0} (M : Machine S L C E) (lasts : Lasts M) where
   -- what is seen after some steps is within what is seen after more
   pub grows_until : (m n : ℕ) (s : S) → m ≤ n → IsWithin (M.seen (after M m s)) (M.seen (after M n s))
@@ -43,6 +52,9 @@ module _ {S L C E : Type 0} (M : Machine S L C E) (lasts : Lasts M) where
   -- a run that is right after some steps was right before
   pub right_until : (m n : ℕ) (s : S) → m ≤ n → M.wrong (after M n s) ≡ false → M.wrong (after M m s) ≡ false
   right_until m n s le right = grind (arith, kept_until M (λ u. M.wrong u ≡ true) lasts.wrong m n s le)
+
+  pub all_right : (n : ℕ) (s : S) → M.wrong (after M n s) ≡ false → IsRightUntil M n s
+  all_right n s right i le = right_until i n s le right
 
   -- a run that is over stays over, and shows nothing more
   pub over_until : (ending : E) (seen : Seen L) (m n : ℕ) (s : S) → m ≤ n → Stands M (End ending) seen (after M m s) →

@@ -1,15 +1,15 @@
 -- The small machines: what lasts in them, the two simulations, and what the theory makes of these.
-use Rattle.std.proofs.Common.{◌≡◌, ℕ, zero, suc, ◌+◌, ◌-◌, ◌≤◌, nat_le, List, [], ◌∷◌, ◌++◌, length, Some, refl, sym, ◌∙◌, arith}
+use Rattle.std.proofs.Common.{◌≡◌, ℕ, zero, suc, ◌+◌, ◌-◌, ◌≤◌, List, [], ◌∷◌, ◌++◌, length, Some, refl, ◌∙◌, arith}
 use Rattle.std.proofs.lemmas.Bool.Decides.{nat_tests}
 use Rattle.std.specs.Prelude.{Bool, true, false}
-use Rattle.cmm_simulation.proofs.Agreements.{agrees_of_follows}
-use Rattle.cmm_simulation.proofs.Composing.{follows_trans, simulates_trans}
+use Rattle.cmm_simulation.proofs.Agreements.{agrees_lazily}
+use Rattle.cmm_simulation.proofs.Composing.{lazily_trans, simulates_trans}
 use Rattle.cmm_simulation.proofs.Followings.{follows_of_simulates}
 use Rattle.cmm_simulation.proofs.Paths.{joined, one_step}
 use Rattle.cmm_simulation.proofs.Prefixes.{prefix_more, prefix_refl}
 use Rattle.cmm_simulation.proofs.Runs.{one_end, right_until}
 use Rattle.cmm_simulation.proofs.Scaling.{follows_scaled, simulates_scaled}
-use Rattle.cmm_simulation.proofs.Simulations.{in_lock_step}
+use Rattle.cmm_simulation.proofs.Simulations.{in_lock_step, stepwise}
 use Rattle.cmm_simulation.proofs.Testing.{follows_tested}
 use Rattle.cmm_simulation.specs.Examples.{UncheckedSimulates, TestedTicksFollow, TickingSimulates, TicksSimulate, TicksFollow, TicksAgree, EndsOnce, puts_at_most}
 use Rattle.cmm_simulation.specs.Machine.{Machine, Lasts, after}
@@ -18,7 +18,7 @@ use Rattle.cmm_simulation.specs.Seen.{Event, Input, Client, End}
 use Rattle.cmm_simulation.specs.Ticking.{ticking}
 
 -- what is seen of a reader only grows, and one that is over or wrong stays so
-reader_lasts : (checks : Bool) → Lasts (reader checks)
+pub reader_lasts : (checks : Bool) → Lasts (reader checks)
 reader_lasts checks =
     record { grows = λ s. grind (arith, prefix_refl, prefix_more); over = λ s ending is. grind arith; wrong = λ s is. grind arith }
 
@@ -27,20 +27,19 @@ pub unchecked_simulates : UncheckedSimulates
 unchecked_simulates = in_lock_step (λ s t is. grind arith) (λ s t is right. grind arith)
 
 -- a machine lasts when it is done in ticks
-ticking_lasts : {S L C E : Type 0} (M : Machine S L C E) → Lasts M → Lasts (ticking M)
+pub ticking_lasts : {S L C E : Type 0} (M : Machine S L C E) → Lasts M → Lasts (ticking M)
 ticking_lasts M lasts =
     record { grows = λ u. grind (arith, prefix_refl, lasts.grows u.0); over = λ u ending is. grind arith; wrong = λ u is. grind arith }
 
 -- a step is fetched, which shows nothing, and done
 pub ticking_simulates : TickingSimulates
-ticking_simulates checks = record {
-  level = λ s u is. grind arith;
-  leads = λ s u is right.
-      rw is
-      (joined {Q = λ v. v ≡ (s, true)} {m = 1} {n = 1} {o = 1}
-      (one_step (grind (arith, (reader_lasts checks).grows s, right_until _ (reader_lasts checks) 0 1 s)) refl (omega arith))
-      (λ v at. rw at (one_step (grind (arith, prefix_refl)) refl (omega arith))) (omega arith) (omega arith));
-}
+ticking_simulates checks =
+    stepwise (λ s u is. grind arith)
+    (λ s u is right.
+    rw is
+    (joined {Q = λ v. v ≡ (s, true)} {m = 1} {n = 1} {o = 1}
+    (one_step (grind (arith, (reader_lasts checks).grows s, right_until _ (reader_lasts checks) 0 1 s)) refl (omega arith))
+    (λ v at. rw at (one_step (grind (arith, prefix_refl)) refl (omega arith))) (omega arith) (omega arith)))
 
 -- both together, the first at two for a step
 pub ticks_simulate : TicksSimulate
@@ -50,14 +49,14 @@ ticks_simulate =
 -- the unchecked reader follows the checked one, at two for a step once this is scaled, and ticks follow it at two a step
 pub ticks_follow : TicksFollow
 ticks_follow input =
-    follows_trans
-    (follows_scaled 2 (λ _. omega arith) (λ _. omega arith) (follows_of_simulates (reader_lasts true) unchecked_simulates refl))
-    (follows_of_simulates (reader_lasts false) (ticking_simulates false) refl)
+    lazily_trans
+    (follows_scaled 2 (λ _. omega arith) (λ _. omega arith) (follows_of_simulates unchecked_simulates refl))
+    (follows_of_simulates (ticking_simulates false) refl)
 
 -- so they agree
 pub ticks_agree : TicksAgree
 ticks_agree input =
-    agrees_of_follows (reader_lasts true) (ticking_lasts (reader false) (reader_lasts false)) (omega arith) (ticks_follow input)
+    agrees_lazily (reader_lasts true) (ticking_lasts (reader false) (reader_lasts false)) (omega arith) refl (ticks_follow input)
 
 -- the reader ends once, as every machine that lasts
 pub ends_once : EndsOnce
@@ -96,8 +95,7 @@ at_most most (number ∷ left) r (End count) le is = absurd (cc (is))
 
 pub tested_ticks_follow : TestedTicksFollow
 tested_ticks_follow input =
-    follows_tested (reader true) (ticking (reader false)) (puts_at_most (length input)) refl (λ _. 2) (λ _. 1) (start input) (start input, false)
-    (reader_lasts true)
+    follows_tested (reader true) (ticking (reader false)) (puts_at_most (length input)) refl (λ _. 2) (λ _. 1) 1 (start input) (start input, false)
     (λ m right event is. let r = after (reader true) m (start input) in
     at_most (length input) r.left r event (omega (arith, counts true input m)) is)
     (ticks_follow input)

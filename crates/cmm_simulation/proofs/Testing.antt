@@ -1,11 +1,9 @@
 -- What follows a machine whose events all pass a test stands at no event that fails it.
 use Rattle.std.proofs.Common.{◌≡◌, ℕ, zero, suc, ◌+◌, ◌<◌, ◌≤◌, ◌||◌, not, Bool, true, false, Option, Some, None, refl, sym, ap, ◌∙◌, subst, arith, inl, inr, ◌⊎◌}
-use Rattle.cmm_simulation.proofs.Runs.{right_until}
-use Rattle.cmm_simulation.specs.Following.{Follows}
-use Rattle.cmm_simulation.specs.Machine.{Machine, Lasts, after, spent}
+use Rattle.cmm_simulation.specs.Following.{FollowsLazily}
+use Rattle.cmm_simulation.specs.Machine.{Machine, IsRightUntil, after, spent}
 use Rattle.cmm_simulation.specs.Observing.{Level, Passes}
 use Rattle.cmm_simulation.specs.Seen.{Event, Input, Client, End, but_input}
-use Rattle.cmm_simulation.specs.Simulation.{Leads}
 use Rattle.cmm_simulation.specs.Tested.{EventsPass, fails, tested}
 
 module _ {S T L C E : Type 0} (A : Machine S L C E) (B : Machine T L C E) (passes : Event C E → Bool) (input : passes Input ≡ true) where
@@ -50,47 +48,41 @@ module _ {S T L C E : Type 0} (A : Machine S L C E) (B : Machine T L C E) (passe
   stands_passes (Some e) all = ap not (all e refl)
   stands_passes None all = refl
 
-  module _ (a : S → ℕ) (b : T → ℕ) (s : S) (t : T) (lasts : Lasts A) (all : EventsPass passes A s) (follows : Follows A a B b s t) where
-    module _ (m : ℕ) (good : A.wrong (after A m s) ≡ false) where
-      path : Leads B b (λ u. (i : ℕ) × (i < m) × Passes A B (after A i s) u) (Level A B (after A m s)) m (spent A a m s) t
-      path = follows.leads m good
+  module _ (a : S → ℕ) (b : T → ℕ) (slack : ℕ) (s : S) (t : T) (all : EventsPass passes A s) (follows : FollowsLazily A a B b slack s t) where
+    level_there : (m : ℕ) → IsRightUntil A m s → Level A (tested passes B) (after A m s) (after (tested passes B) (follows.done m) t)
+    level_there m right =
+        subst (λ (u : T). Level A (tested passes B) (after A m s) u) (sym (after_same (follows.done m) t))
+        (level_too (after A m s) (after B (follows.done m) t) (all m (right m (omega arith))) (follows.level m right))
 
-      -- behind a step of the path, the state stands at no event that fails
-      next_passes : (k : ℕ) → k < path.steps → fails passes (B.asks (after B (suc k) t)) ≡ false
-      next_passes k less = by (more (suc k) path.steps (omega (arith, less)))
-        where
-          more : (x y : ℕ) → x ≤ y → (x < y) ⊎ (x ≡ y)
-          more x y le = grind (arith, le)
+    -- behind a state that is passed, no event fails
+    next_passes : (m n : ℕ) → IsRightUntil A (suc m) s → follows.done m ≤ n → n < follows.done (suc m) → fails passes (B.asks (after B (suc n) t)) ≡ false
+    next_passes m n right le less = by (grind (arith, less))
+      where
+        by : (suc n < follows.done (suc m)) ⊎ (suc n ≡ follows.done (suc m)) → fails passes (B.asks (after B (suc n) t)) ≡ false
+        by (inl under) =
+            let p = follows.passes m (suc n) right (omega (arith, le)) under in
+            stands_passes (B.asks (after B (suc n) t)) (λ e is. all m (right m (omega arith)) e (p.asks e is).0)
+        by (inr last) =
+            ap (λ (i : ℕ). fails passes (B.asks (after B i t))) last
+            ∙ event_passes (A.asks (after A (suc m) s)) (B.asks (after B (follows.done (suc m)) t)) (follows.level (suc m) right).asks
+            (all (suc m) (right (suc m) (omega arith)))
 
-          by : (suc k < path.steps) ⊎ (suc k ≡ path.steps) → fails passes (B.asks (after B (suc k) t)) ≡ false
-          by (inl under) =
-              let p = path.through (suc k) under in
-              stands_passes (B.asks (after B (suc k) t)) (λ e is. all p.0 (right_until A lasts p.0 m s (omega (arith, p.1)) good) e (p.2.asks e is).0)
-          by (inr last) =
-              ap (λ (n : ℕ). fails passes (B.asks (after B n t))) last
-              ∙ event_passes (A.asks (after A m s)) (B.asks (after B path.steps t)) path.arrives.asks (all m good)
+    passed_too : (m n : ℕ) → IsRightUntil A (suc m) s → follows.done m ≤ n → n < follows.done (suc m) → Passes A (tested passes B) (after A m s) (after B n t)
+    passed_too m n right le less =
+        let p = follows.passes m n right le less in
+        record {
+          seen = p.seen;
+          asks = p.asks;
+          right = λ fine. no_more (B.wrong (B.step (after B n t))) (fails passes (B.asks (B.step (after B n t)))) (next_passes m n right le less) ∙ p.right fine;
+        }
 
-      through_too : (k : ℕ) → k < path.steps → (i : ℕ) × (i < m) × Passes A (tested passes B) (after A i s) (after B k t)
-      through_too k less =
-          let p = path.through k less in (
-            p.0,
-            p.1,
-            record {
-              seen = p.2.seen;
-              asks = p.2.asks;
-              right = λ fine. no_more (B.wrong (B.step (after B k t))) (fails passes (B.asks (B.step (after B k t)))) (next_passes k less) ∙ p.2.right fine;
-            },
-          )
-
-      leads_too : Leads (tested passes B) b (λ u. (i : ℕ) × (i < m) × Passes A (tested passes B) (after A i s) u) (Level A (tested passes B) (after A m s)) m (spent A a m s) t
-      leads_too = record {
-        steps = path.steps;
-        through = λ k less. subst (λ (u : T). (i : ℕ) × (i < m) × Passes A (tested passes B) (after A i s) u) (sym (after_same k t)) (through_too k less);
-        arrives = subst (λ (u : T). Level A (tested passes B) (after A m s) u) (sym (after_same path.steps t))
-            (level_too (after A m s) (after B path.steps t) (all m good) path.arrives);
-        enough = path.enough;
-        within = subst (λ (n : ℕ). n ≤ spent A a m s) (sym (spent_same b path.steps t)) path.within;
-      }
-
-    pub follows_tested : Follows A a (tested passes B) b s t
-    follows_tested = record { leads = leads_too }
+    pub follows_tested : FollowsLazily A a (tested passes B) b slack s t
+    follows_tested = record {
+      done = follows.done;
+      begins = follows.begins;
+      ascends = follows.ascends;
+      level = level_there;
+      passes = λ m n right le less. subst (λ (u : T). Passes A (tested passes B) (after A m s) u) (sym (after_same n t)) (passed_too m n right le less);
+      within = λ m right. subst (λ (n : ℕ). n ≤ spent A a m s) (sym (spent_same b (follows.done m) t)) (follows.within m right);
+      enough = follows.enough;
+    }

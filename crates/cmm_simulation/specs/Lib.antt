@@ -3,7 +3,6 @@ pub mod Examples
 pub mod Following
 pub mod Machine
 pub mod Observing
-pub mod OnceBegun
 pub mod Reader
 pub mod Seen
 pub mod Simulation

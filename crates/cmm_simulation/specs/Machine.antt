@@ -1,5 +1,5 @@
 -- Machines: what they do step by step, what is seen of them, and what their steps cost.
-use Rattle.std.specs.Prelude.{◌≡◌, ℕ, zero, suc, ◌+◌, Bool, true, Option, Some}
+use Rattle.std.specs.Prelude.{◌≡◌, ℕ, zero, suc, ◌+◌, ◌≤◌, Bool, true, false, Option, Some}
 use Rattle.cmm_simulation.specs.Seen.{Seen, IsWithin, Event, End}
 
 -- a machine goes from each state to one next state; of a state it says what has been seen, at which event it stands, if at one, and
@@ -19,6 +19,10 @@ after M (suc n) s = M.step (after M n s)
 abbrev pub spent : {State Line Call Ending : Type 0} → Machine State Line Call Ending → (State → ℕ) → ℕ → State → ℕ
 spent M cost zero s = 0
 spent M cost (suc n) s = spent M cost n s + cost (after M n s)
+
+-- a run has not gone wrong by n steps
+abbrev pub IsRightUntil : {State Line Call Ending : Type 0} → Machine State Line Call Ending → ℕ → State → Type 0
+IsRightUntil M n s = (i : ℕ) → i ≤ n → M.wrong (after M i s) ≡ false
 
 module _ {State Line Call Ending : Type 0} (M : Machine State Line Call Ending) where
   -- a state stands at an event, once so much has been seen

@@ -1,5 +1,5 @@
--- Two machines side by side: states that are level, and states that the second passes during one step of the first.
-use Rattle.std.specs.Prelude.{◌≡◌, false, Some}
+-- Two machines side by side: states that are level, states that the second passes during one step of the first, and those that come before its run.
+use Rattle.std.specs.Prelude.{◌≡◌, false, Some, None}
 use Rattle.cmm_simulation.specs.Machine.{Machine, Stands}
 use Rattle.cmm_simulation.specs.Seen.{IsWithin, Event, but_input}
 
@@ -16,3 +16,11 @@ module _ {S T Line Call Ending : Type 0} (A : Machine S Line Call Ending) (B : M
     pub seen : IsWithin (B.seen (B.step t)) (A.seen (A.step s))
     pub asks : (event : Event Call Ending) → B.asks t ≡ Some event → Stands A event (B.seen t) s
     pub right : A.wrong (A.step s) ≡ false → B.wrong (B.step t) ≡ false
+
+  -- the second machine makes a step before the run of the first begins: it has shown what the first shows where it begins, shows nothing more with that step, and stands
+  -- at no event
+  pub record Precedes (s : S) (t : T) : Type 0 where
+    pub shown : IsWithin (A.seen s) (B.seen t)
+    pub seen : IsWithin (B.seen (B.step t)) (A.seen s)
+    pub asks : B.asks t ≡ None
+    pub right : B.wrong (B.step t) ≡ false
