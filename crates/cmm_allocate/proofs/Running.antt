@@ -4,7 +4,7 @@ use Rattle.std.proofs.lemmas.List.{length-map}
 use Rattle.std.proofs.lemmas.List.Elements.{All-head, All-tail}
 use Rattle.std.proofs.lemmas.Option.{slice_get-get_or}
 use Rattle.std.specs.List.{All, AllZip}
-use Rattle.cmm_simulation.proofs.Composing.{follows_trans}
+use Rattle.cmm_simulation.proofs.Composing.{lazily_trans}
 use Rattle.cmm_program.specs.declared.procedure.Cont.{Cont}
 use Rattle.cmm_program.specs.declared.procedure.Proc.{Proc}
 use Rattle.cmm_program.specs.declared.program.Program.{Program}
@@ -108,7 +108,7 @@ places_follow_programs located_runs_follow_graphs hoisted_flows_follow are_compi
     let c = compiled graphs found in
     let main = main_there s runs.range.main in
     let most = runs.within.most in
-    follows_trans (hoisted_flows_follow s graphs input (step_cost c most) runs.within set bytes (are_costs c most))
+    lazily_trans (hoisted_flows_follow s graphs input (step_cost c most) runs.within set bytes (are_costs c most))
     (located_runs_follow_graphs s c (live_before found) most main.0 input (are_compiled s graphs found runs) (are_showable s graphs found runs) main.1
     (runs.range.main_formals main.0 main.1))
 

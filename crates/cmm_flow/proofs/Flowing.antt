@@ -1,9 +1,9 @@
 -- The laws: runs over the graphs of a program are runs of the C-- machine.
 use Rattle.std.proofs.Common.{◌≡◌, ℕ, ◌+◌, List, subst, arith}
-use Rattle.cmm_simulation.proofs.Agreements.{agrees_of_follows}
+use Rattle.cmm_simulation.proofs.Agreements.{agrees_lazily}
 use Rattle.cmm_simulation.proofs.Followings.{follows_of_simulates}
 use Rattle.cmm_simulation.specs.Simulation.{Simulates}
-use Rattle.cmm_machine_laws.proofs.Shared.{machine_lasts}
+use Rattle.cmm_machine_laws.proofs.Shared.{machine_lasts, starts_right}
 use Rattle.cmm_machine_laws.specs.Fitting.{ExpressionsFit, IsSetUp, StatesAreSound}
 use Rattle.cmm_machine_laws.specs.Observed.{machine_of}
 use Rattle.cmm_program.specs.Control.{State}
@@ -29,7 +29,7 @@ flow_simulates_at sound fit s graphs cost more set flows costs = run_simulates s
 pub flow_follows_at : StatesAreSound → ExpressionsFit → FlowFollowsAt
 unfolding at_costs
 flow_follows_at sound fit s graphs input cost more set bytes flows costs =
-    follows_of_simulates (machine_lasts (todo_control s.program) s) (flow_simulates_at sound fit s graphs cost more set flows costs)
+    follows_of_simulates (flow_simulates_at sound fit s graphs cost more set flows costs)
     (starts_related sound fit (at_costs s graphs cost more costs) set flows input bytes)
 
 -- nothing is dearer
@@ -58,12 +58,13 @@ flow_simulates sound fit s graphs set flows = simulates_for sound fit s graphs (
 pub flow_follows : StatesAreSound → ExpressionsFit → FlowFollows
 unfolding at_costs
 flow_follows sound fit s graphs input set bytes flows =
-    follows_of_simulates (machine_lasts (todo_control s.program) s) (flow_simulates sound fit s graphs set flows)
+    follows_of_simulates (flow_simulates sound fit s graphs set flows)
     (starts_related sound fit (at_costs s graphs (tokens_of_youngest graphs) 0 (by_tokens s graphs)) set flows input bytes)
 
 pub flow_agrees : StatesAreSound → ExpressionsFit → FlowAgrees
 unfolding at_costs
 flow_agrees sound fit s graphs input set bytes flows =
-    agrees_of_follows (machine_lasts (todo_control s.program) s) (machine_lasts (graph_control graphs) s) (longest_positive s.program.procs)
-    (follows_of_simulates (machine_lasts (todo_control s.program) s) (simulates_for sound fit s graphs (λ _. 1) set flows (by_steps s graphs))
+    agrees_lazily (machine_lasts (todo_control s.program) s) (machine_lasts (graph_control graphs) s) (longest_positive s.program.procs)
+    (starts_right (todo_control s.program) s input)
+    (follows_of_simulates (simulates_for sound fit s graphs (λ _. 1) set flows (by_steps s graphs))
     (starts_related sound fit (at_costs s graphs (λ _. 1) 0 (by_steps s graphs)) set flows input bytes))

@@ -5,6 +5,7 @@ use Rattle.std.proofs.lemmas.List.Elements.{All-head}
 use Rattle.std.proofs.lemmas.Bool.Decides.{nat_tests}
 use Rattle.cmm_simulation.proofs.Paths.{joined, one_step, weaker}
 use Rattle.cmm_simulation.proofs.Prefixes.{within_refl}
+use Rattle.cmm_simulation.proofs.Simulations.{stepwise}
 use Rattle.cmm_simulation.specs.Machine.{Machine}
 use Rattle.cmm_simulation.specs.Observing.{Level, Passes}
 use Rattle.cmm_simulation.specs.Seen.{IsWithin, but_input}
@@ -345,12 +346,11 @@ module _ (are_sound : StatesAreSound) (fitting : ExpressionsFit) (r : Run) (set 
 
   -- the law, at any such costs
   pub run_simulates : Simulates A (λ _. longest s.program + r.more) (machine r) r.cost (SoundlyRelated s r.graphs)
-  run_simulates = record {
-    level = λ a b both. level_by a b a.store.status both.related.store refl;
-    leads = λ a b both right.
-        weaker (related_leads a b both.related both.sound right) (λ u passes. passes) (λ v related. record { related = related; sound = are_sound.next s set a both.sound })
-        (omega arith) (λ n within. within);
-  }
+  run_simulates =
+      stepwise (λ a b both. level_by a b a.store.status both.related.store refl)
+      (λ a b both right.
+      weaker (related_leads a b both.related both.sound right) (λ u passes. passes) (λ v related. record { related = related; sound = are_sound.next s set a both.sound })
+      (omega arith) (λ n within. within))
 
   -- both start related
   begins_related : (input : List ℕ) → Rel (start_of (todo_control s.program) s input) (start_of (graph_control r.graphs) s input)

@@ -1,10 +1,10 @@
 -- the located machine simulates the machine over graphs
 use Rattle.std.proofs.Common.{◌≡◌, ℕ, ◌+◌, ◌≤◌, Bool, true, false, List, arith, refl, sym, ap, ◌∙◌, subst}
 use Rattle.cmm_simulation.proofs.Followings.{follows_of_simulates}
+use Rattle.cmm_simulation.proofs.Simulations.{stepwise}
 use Rattle.cmm_program.specs.Control.{State}
 use Rattle.cmm_program.specs.Errors.{UncheckedError}
 use Rattle.cmm_program.specs.State.{Setting, Status, Running, Waiting, Ended, Wrong}
-use Rattle.cmm_machine_laws.proofs.Shared.{machine_lasts}
 use Rattle.cmm_graph.specs.GraphControl.{Position, graph_control}
 use Rattle.cmm_graph.specs.GraphMachine.{graph_step, tokens_of_youngest}
 use Rattle.cmm_graph.specs.Laws.{OrderIsByReads, ValueIsByReads}
@@ -68,12 +68,11 @@ module _ (by_reads : OrderIsByReads) (by_values : ValueIsByReads) (s : Setting) 
   step_leads (Wrong error) is = λ right. absurd (goes_wrong error is right)
 
 pub located_runs_simulate_graphs : OrderIsByReads → ValueIsByReads → LocatedRunsSimulateGraphs
-located_runs_simulate_graphs by_reads by_values s c live most compiled showable = record {
-  level = λ st at related. related_are_level s c live st at showable.variables showable.live related;
-  leads = λ st at related. step_leads by_reads by_values s c live most compiled showable st at related st.store.status refl;
-}
+located_runs_simulate_graphs by_reads by_values s c live most compiled showable =
+    stepwise (λ st at related. related_are_level s c live st at showable.variables showable.live related)
+    (λ st at related. step_leads by_reads by_values s c live most compiled showable st at related st.store.status refl)
 
 pub located_runs_follow_graphs : OrderIsByReads → ValueIsByReads → LocatedRunsFollowGraphs
 located_runs_follow_graphs by_reads by_values s c live most p input compiled showable is_main none =
-    follows_of_simulates (machine_lasts (graph_control c.graphs) s) (located_runs_simulate_graphs by_reads by_values s c live most compiled showable)
+    follows_of_simulates (located_runs_simulate_graphs by_reads by_values s c live most compiled showable)
     (runs_begin_alike s c live p input compiled.frames compiled.planned is_main none (compiled.entries s.program.main p is_main))

@@ -8,7 +8,7 @@ pub use Rattle.cmm_machine_laws.proofs.StackKept.{After, Leads, land_after, noth
 pub use Rattle.cmm_machine_laws.proofs.Stacking.{length_stackdata, steps_stack}
 pub use Rattle.cmm_machine_laws.proofs.Addresses.{row_at, pairs_inside, older_are_stack, frames_reach_top, frames_adjoin, frames_aligned, parts_in_frame, parts_apart, parts_in_stack, none_below, own_alone}
 pub use Rattle.cmm_machine_laws.proofs.Doing.{Asks, IsExitOf, OfReturn, OfUnwind, OfCut, answered_kept}
-pub use Rattle.cmm_machine_laws.proofs.Lasting.{machine_lasts}
+pub use Rattle.cmm_machine_laws.proofs.Lasting.{machine_lasts, starts_right}
 pub use Rattle.cmm_machine_laws.proofs.Cells.{read_after_write, outside_stays, younger_first, lack_each, comes_unwritten, written_then_gone}
 pub use Rattle.cmm_machine_laws.proofs.StoredWords.{bytes_of_number, number_of_bytes, bytes_of_spelled, access_stays, stored_is_loaded, words_elsewhere_stay}
 pub use Rattle.cmm_machine_laws.proofs.Alike.{answers_are_alike}

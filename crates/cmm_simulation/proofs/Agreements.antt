@@ -168,6 +168,15 @@ module _ {S T L C E : Type 0} (A : Machine S L C E) (B : Machine T L C E) (first
   pub agrees_once_begun : Agrees A B first factor s t
   agrees_once_begun = record { down = does; up = up }
 
+module _ {S T L C E : Type 0} {A : Machine S L C E} {B : Machine T L C E} {first later factor : ℕ} {s : S} {t : T} where
+  -- more first steps may be allowed for
+  pub agrees_later : first ≤ later → Agrees A B first factor s t → Agrees A B later factor s t
+  agrees_later le agrees = record {
+    down = λ m right. let does = agrees.down m right in
+        record { seen = does.seen; ends = does.ends; stands = λ event is. let at = does.stands event is in (at.0, omega (arith, at.1, le), at.2) };
+    up = agrees.up;
+  }
+
 module _ {S T L C E : Type 0} {A : Machine S L C E} {B : Machine T L C E} {factor slack : ℕ} {s : S} {t : T} (lasts : Lasts A) (lasts' : Lasts B) where
   -- and so is following from the start
   pub agrees_lazily : slack ≤ factor → A.wrong s ≡ false → FollowsLazily A (λ _. factor) B (λ _. 1) slack s t → Agrees A B 0 factor s t
