@@ -9,6 +9,7 @@ use Rattle.std.proofs.lemmas.Slice.Zip.{AllZip-long, length-zip}
 use Rattle.std.specs.Prelude.{All, sum_by}
 use Rattle.std.specs.List.{list_all, zip}
 use Rattle.rv_table.specs.declared.memory_map.TheConstants.{CODE_LENGTH_LIMIT}
+use Rattle.cmm_simulation.specs.Agreement.{Agrees}
 use Rattle.cmm_simulation.specs.Machine.{after}
 use Rattle.cmm_simulation.specs.Seen.{Client, IsPrefix}
 use Rattle.cmm_script.specs.declared.script.Script.{Script}
@@ -41,7 +42,6 @@ use Rattle.cmm_located.specs.Compiled.{Compiled}
 use Rattle.cmm_located.specs.Layouts.{row_with}
 use Rattle.cmm_located.specs.LocatedMachine.{located_start, tokens_at}
 use Rattle.cmm_located.specs.SameOrders.{HasFrames}
-use Rattle.cmm_simulation.specs.OnceBegun.{AgreesOnceBegun}
 use Rattle.cmm_emit_laws.specs.Represented.{IsFor}
 use Rattle.cmm_client_laws.specs.Laws.{IsTold, RowsAreTables}
 use Rattle.cmm_client_laws.specs.Tables.{HaveTables}
@@ -233,9 +233,9 @@ module _ (promises : Promises) (p : Program) (graphs : List Graph) (found : List
         omega (arith, few, first, one, same_longest)
 
     agree : (input : List ℕ) → All IsByte input →
-        AgreesOnceBegun (machine_of (todo_control p) s) (image_machine l) (step_factor p) (start s input) (first_run l input)
+        Agrees (machine_of (todo_control p) s) (image_machine l) (step_factor p) (step_factor p) (start s input) (first_run l input)
     agree input are =
-        subst (λ (n : ℕ). AgreesOnceBegun (machine_of (todo_control p) s) (image_machine l) n (start s input) (first_run l input)) factor
+        subst (λ (n : ℕ). Agrees (machine_of (todo_control p) s) (image_machine l) n n (start s input) (first_run l input)) factor
         (promises.clients s set_up c l runs.finished whole runs.begins input are cost (promises.follows s graphs found input set_up are over)
         (let enough = soon input in omega (arith, enough)))
 

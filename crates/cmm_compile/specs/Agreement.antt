@@ -3,6 +3,7 @@
 use Rattle.std.specs.Prelude.{◌≡◌, ℕ, ◌+◌, ◌*◌, ◌≤◌, ◌++◌, List, false, length, map, slice_get, sum_by, Some}
 use Rattle.std.specs.List.{All}
 use Rattle.rv_table.specs.Machine.{stack_base}
+use Rattle.cmm_simulation.specs.Agreement.{Agrees}
 use Rattle.cmm_simulation.specs.Machine.{after}
 use Rattle.cmm_simulation.specs.Seen.{Client, IsPrefix}
 use Rattle.cmm_script.specs.declared.script.Script.{Script}
@@ -24,7 +25,6 @@ use Rattle.cmm_image.specs.ImageFormat.{procedure_at}
 use Rattle.cmm_image_machine.specs.Changes.{label_named}
 use Rattle.cmm_image_machine.specs.Machine.{IsStackSize, first_run, launch_of}
 use Rattle.cmm_image_machine.specs.Observed.{image_machine}
-use Rattle.cmm_simulation.specs.OnceBegun.{AgreesOnceBegun}
 use Rattle.cmm_image_machine.specs.Tables.{IsLabelRow, global_row, placement_of, variable_row}
 use Rattle.cmm_front.specs.Programs.{IsProgramOf}
 
@@ -32,13 +32,14 @@ use Rattle.cmm_front.specs.Programs.{IsProgramOf}
 abbrev pub setting_of : Program → ImageParts → Script → ℕ → Setting
 setting_of p i script stack = record { program = p; placement = placement_of i; stack_base = stack_base; stack_size = stack; script = script }
 
--- For every script, stack and input the image does in K * (m + 1) instructions what the machine does in m steps, and the machine does in K * (n + 1) steps what the image does in
--- n instructions, where K is the step factor of the program: what is written, what is asked for and how it ends. What a yield asks for are its values and the walk that the
--- client is shown, and a run that the client stops ends with the walk that it leaves. The code from which `main` is called counts among the first instructions.
+-- For every script, stack and input the image does in K * (m + 1) instructions what the machine does in m steps, unless that has gone wrong, where K is the step factor of the
+-- program: what is written, what is asked for and how it ends. And wherever the image stands after n instructions, the machine stands so after fewer than K * (n + 1) steps, or it
+-- commits an unchecked error with a step from where the image was level with it. What a yield asks for are its values and the walk that the client is shown, and a run that
+-- the client stops ends with the walk that it leaves. The code from which `main` is called counts among the first instructions.
 abbrev pub RunsAgree : Program → ImageParts → Type 0
 RunsAgree p i = (script : Script) (stack : ℕ) (input : List ℕ) → IsStackSize stack → All IsByte input →
     let s = setting_of p i script stack in let l = launch_of i script stack in
-    AgreesOnceBegun (machine_of (todo_control p) s) (image_machine l) (step_factor p) (start s input) (first_run l input)
+    Agrees (machine_of (todo_control p) s) (image_machine l) (step_factor p) (step_factor p) (start s input) (first_run l input)
 
 -- Where the machine waits for the client after m steps, the image has the line of this yield in its log by K * (m + 1) instructions too.
 abbrev pub LinesCome : Program → ImageParts → Type 0

@@ -10,16 +10,14 @@ use Rattle.rv_table.specs.Bounds.{IsSound}
 use Rattle.rv_table.specs.Machine as rv
 use Rattle.rv_table.specs.Machine.{State, data_base, loaded, top, Region}
 use Rattle.rv_asm.proofs.Shared.{leads_of}
+use Rattle.cmm_simulation.proofs.Followings.{follows_of_simulates}
 use Rattle.cmm_simulation.proofs.Paths.{weaker}
-use Rattle.cmm_simulation.proofs.Simulations.{run_leads}
 use Rattle.cmm_simulation.specs.Following.{Follows}
-use Rattle.cmm_simulation.specs.Machine.{after}
 use Rattle.cmm_simulation.specs.Observing.{Passes}
 use Rattle.cmm_simulation.specs.Seen.{Seen, IsWithin}
 use Rattle.cmm_simulation.specs.Simulation.{Leads}
 use Rattle.cmm_program.specs.Layout.{data_bytes}
 use Rattle.cmm_program.specs.Machine.{first_store}
-use Rattle.cmm_program.specs.State as p
 use Rattle.cmm_program.specs.State.{Setting, stack_top}
 use Rattle.cmm_program.specs.Memory.{IsByte}
 use Rattle.cmm_graph.specs.declared.number.NodeId.{NodeId}
@@ -42,7 +40,7 @@ use Rattle.cmm_emit_laws.specs.StateLaws.{Begins}
 use Rattle.cmm_located.specs.Compiled.{Compiled, Located}
 use Rattle.cmm_located.specs.LocatedMachine.{located_machine, located_start, located_step, tokens_at}
 use Rattle.cmm_emit_laws.proofs.Landing.{first_holds, has_tokens, inside_entry}
-use Rattle.cmm_emit_laws.proofs.Simulating.{code_around, images_simulate_located_runs, step_is}
+use Rattle.cmm_emit_laws.proofs.Simulating.{code_around, images_simulate_located_runs}
 use Rattle.cmm_emit_laws.specs.Finished.{Finished}
 use Rattle.cmm_emit_laws.specs.Laws.{CodeBegins, ImagesFollowLocatedRuns, IsRepresentedIn, most_for_step}
 use Rattle.cmm_emit_laws.specs.ProgramCode.{IsCode, IsCodeAround}
@@ -80,43 +78,10 @@ nothing_within seen = record {
   taken = record { rest = seen.taken; whole = refl };
 }
 
--- ---- a wrong run stays wrong
-
-right_before : (s : Setting) (c : Compiled) (at : Located) → (located_machine s c).wrong (located_step s c at) ≡ false → (located_machine s c).wrong at ≡ false
-right_before s c at right = by at.store.status refl
-  where
-    status_tells : (z : p.Status) → at.store.status ≡ z → (located_machine s c).wrong at ≡ elim z as (λ _. Bool) [ p.Wrong error ↦ true | _ ↦ false ]
-    status_tells z is = ap (λ (q : p.Status). elim q as (λ _. Bool) [ p.Wrong error ↦ true | _ ↦ false ]) is
-
-    by : (z : p.Status) → at.store.status ≡ z → (located_machine s c).wrong at ≡ false
-    by p.Running is = status_tells p.Running is
-    by (p.Waiting values) is = status_tells (p.Waiting values) is
-    by (p.Ended outcome) is = status_tells (p.Ended outcome) is
-    by (p.Wrong error) is = sym (ap (λ (z : Located). (located_machine s c).wrong z) (step_is s c at (p.Wrong error) is)) ∙ right
-
--- so one that is right after some steps was right before
-pub right_earlier : (s : Setting) (c : Compiled) (at : Located) (m n : ℕ) → m ≤ n → (located_machine s c).wrong (after (located_machine s c) n at) ≡ false →
-    (located_machine s c).wrong (after (located_machine s c) m at) ≡ false
-right_earlier s c at m zero less right =
-    let same : 0 ≡ m = omega (arith, less) in subst (λ (k : ℕ). (located_machine s c).wrong (after (located_machine s c) k at) ≡ false) same right
-right_earlier s c at m (suc n) less right =
-    by (m == suc n) refl (λ before. right_earlier s c at m n before (right_before s c (after (located_machine s c) n at) right))
-  where
-    by : (test : Bool) → (m == suc n) ≡ test → (m ≤ n → (located_machine s c).wrong (after (located_machine s c) m at) ≡ false) →
-        (located_machine s c).wrong (after (located_machine s c) m at) ≡ false
-    by true is rest =
-        let same : suc n ≡ m = grind (arith, nat_tests, is) in subst (λ (k : ℕ). (located_machine s c).wrong (after (located_machine s c) k at) ≡ false) same right
-    by false is rest = rest (grind (arith, nat_tests, is, less))
-
 -- what represents a state follows the run from there on
 pub shown_follows : (lead : SwitchesLead) (s : Setting) (c : Compiled) (l : Launch) (f : Finished) → IsCode s c l f → (rest : ℕ → ℕ) (at : Located) (u : Run) → IsRepresentedIn s c l f rest at u →
     Follows (located_machine s c) (most_for_step s c) (image_machine l) (λ run. 1) at u
-shown_follows lead s c l f code rest at u is_shown = record {
-  leads = λ m right.
-      weaker
-      (run_leads (images_simulate_located_runs lead s c l f code rest) is_shown m (λ i less. (right_earlier s c at (suc i) m (omega arith) right, λ v passes. (i, less, passes))))
-      (λ v p. p) ((images_simulate_located_runs lead s c l f code rest).level (after (located_machine s c) m at)) (omega arith) (λ n le. le);
-}
+shown_follows lead s c l f code rest at u is_shown = follows_of_simulates (images_simulate_located_runs lead s c l f code rest) is_shown
 
 module _ (s : Setting) (c : Compiled) (l : Launch) (f : Finished) (code : IsCodeAround s c l f) (input : List ℕ) (is_bytes : All IsByte input) where
   abbrev start : Located

@@ -40,8 +40,7 @@ pub mod CopyingIn
 pub mod Simulating
 pub mod Stepping
 pub mod Beginning
-pub mod OnceBegun
-pub mod Agreeing
+pub mod FirstStep
 pub mod Started
 pub mod Placing
 pub mod Naming

@@ -10,7 +10,7 @@ pub use Rattle.cmm_emit_laws.proofs.StartingStates.{starts_are_shown}
 pub use Rattle.cmm_emit_laws.proofs.WrittenWords.{below_stays, cells_stay, in_none, not_in, same_word, shown_same, word_written}
 pub use Rattle.cmm_emit_laws.proofs.SimulatedMachines.{image_is_level, image_is_quiet, image_leads, image_simulates}
 pub use Rattle.cmm_emit_laws.proofs.Placing.{appended_does, finished_code_stands, placed_alone}
-pub use Rattle.cmm_emit_laws.proofs.Agreeing.{first_asks, first_shows, image_agrees, image_stands_soon}
+pub use Rattle.cmm_emit_laws.proofs.FirstStep.{first_asks, first_shows, nothing}
 pub use Rattle.cmm_emit_laws.proofs.Beginning.{nothing_within, shown_at_start}
 pub use Rattle.cmm_emit_laws.proofs.CalledOnce.{placed_at}
 pub use Rattle.cmm_emit_laws.proofs.DataWritten.{data_is_written}
@@ -21,7 +21,6 @@ pub use Rattle.cmm_emit_laws.proofs.GoingBack.{there_too}
 pub use Rattle.cmm_emit_laws.proofs.Landing.{inside_copy, landing_holds, normal_holds}
 pub use Rattle.cmm_emit_laws.proofs.LaidFrames.{procedures_are_laid}
 pub use Rattle.cmm_emit_laws.proofs.Nodes.{code_is_quiet, found_in, node_holds, quiet_asks, running_asks}
-pub use Rattle.cmm_emit_laws.proofs.OnceBegun.{agrees_once_begun, stands_soon}
 pub use Rattle.cmm_emit_laws.proofs.Operands.{operand_is}
 pub use Rattle.cmm_emit_laws.proofs.Regions.{bottom_is, top_is}
 pub use Rattle.cmm_emit_laws.proofs.Rest.{rest_stays}

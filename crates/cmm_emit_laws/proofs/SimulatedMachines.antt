@@ -8,6 +8,7 @@ use Rattle.rv_asm.specs.Quiet.{IsQuiet}
 use Rattle.rv_asm.specs.Reaching.{Reaches}
 use Rattle.cmm_simulation.proofs.Paths.{one_step, joined}
 use Rattle.cmm_simulation.proofs.Prefixes.{within_refl}
+use Rattle.cmm_simulation.proofs.Simulations.{stepwise}
 use Rattle.cmm_simulation.specs.Machine.{Machine}
 use Rattle.cmm_simulation.specs.Observing.{Level, Passes}
 use Rattle.cmm_simulation.specs.Seen.{Seen, IsWithin, but_input}
@@ -209,10 +210,9 @@ module _ {S : Type 0} (A : Machine S ℕ Call Ending) (l : Launch) (outside_of :
 
 pub image_simulates : {S : Type 0} (A : Machine S ℕ Call Ending) (l : Launch) (outside_of : S → Outside) (Shown : S → State → Type 0) (Holds : S → Type 0) (cost : S → ℕ) →
     AreDone A l outside_of Shown Holds cost → Simulates A cost (image_machine l) (λ _. 1) (IsRepresentedBy A l outside_of Shown Holds)
-image_simulates A l outside_of Shown Holds cost done = record {
-  level = λ a u shown. image_is_level A l outside_of Shown Holds cost done.served a u shown;
-  leads = λ a u shown right.
-      image_leads A l outside_of Shown Holds cost done.served a u shown right
-      (λ going. done.keeps a u.machine shown.holds going (shown.running going) right)
-      (λ going. done.done a u.machine shown.holds going (shown.running going) right);
-}
+image_simulates A l outside_of Shown Holds cost done =
+    stepwise (λ a u shown. image_is_level A l outside_of Shown Holds cost done.served a u shown)
+    (λ a u shown right.
+    image_leads A l outside_of Shown Holds cost done.served a u shown right
+    (λ going. done.keeps a u.machine shown.holds going (shown.running going) right)
+    (λ going. done.done a u.machine shown.holds going (shown.running going) right))

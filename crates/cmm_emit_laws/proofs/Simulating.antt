@@ -4,6 +4,7 @@ use Rattle.std.specs.Prelude.{Ok, Err}
 use Rattle.std.specs.List.{All, list_all}
 use Rattle.std.proofs.lemmas.Bool.{and_parts}
 use Rattle.rv_table.specs.Machine.{State, instruction_step}
+use Rattle.cmm_simulation.proofs.Simulations.{stepwise}
 use Rattle.cmm_simulation.specs.Observing.{Passes}
 use Rattle.cmm_simulation.specs.Seen.{but_input}
 use Rattle.cmm_simulation.specs.Simulation.{Leads}
@@ -224,8 +225,8 @@ module _ (lead : SwitchesLead) (s : Setting) (c : Compiled) (l : Launch) (f : Fi
       code_does lead s c l f rest (code_around s c l f code) at u.machine stands is_shown.holds (all_coded at u.machine stands) (code.nodes at.procedure at.node stands.node stands.there) right)
 
 pub images_simulate_located_runs : SwitchesLead → ImagesSimulateLocatedRuns
-images_simulate_located_runs lead s c l f code rest = record {
-  level = λ at u is_shown.
-      image_is_level (located_machine s c) l outside_at (Stands s c l f rest) (IsOfRun s c) (most_for_step s c) (is_served lead s c l f rest code) at u is_shown;
-  leads = λ at u is_shown right. step_leads lead s c l f rest code at u is_shown right;
-}
+images_simulate_located_runs lead s c l f code rest =
+    stepwise
+    (λ at u is_shown.
+    image_is_level (located_machine s c) l outside_at (Stands s c l f rest) (IsOfRun s c) (most_for_step s c) (is_served lead s c l f rest code) at u is_shown)
+    (λ at u is_shown right. step_leads lead s c l f rest code at u is_shown right)

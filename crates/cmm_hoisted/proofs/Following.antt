@@ -3,8 +3,9 @@ use Rattle.std.proofs.Common.{◌≡◌, ℕ, zero, suc, ◌+◌, ◌-◌, ◌*�
 use Rattle.std.proofs.lemmas.Option.{slice_get_cases}
 use Rattle.std.specs.Prelude.{slice_get, Bool, true, false, Option, Some, None}
 use Rattle.std.specs.List.{All, AllZip}
-use Rattle.cmm_simulation.proofs.Composing.{follows_simulated}
-use Rattle.cmm_simulation.proofs.Paths.{joined, weaker}
+use Rattle.cmm_simulation.proofs.Composing.{lazily_trans, preceded}
+use Rattle.cmm_simulation.proofs.Followings.{follows_of_simulates}
+use Rattle.cmm_simulation.proofs.Paths.{weaker}
 use Rattle.cmm_simulation.proofs.Runs.{spent_scaled}
 use Rattle.cmm_simulation.proofs.Scaling.{follows_scaled}
 use Rattle.cmm_simulation.specs.Following.{Follows}
@@ -41,22 +42,6 @@ use Rattle.cmm_hoisted.proofs.Costs.{are_costs, cost_before}
 use Rattle.cmm_hoisted.proofs.Relation.{GoOn, HasGraphs, Hoisted, Stand, go_on}
 use Rattle.cmm_hoisted.proofs.Simulating.{enters, is_wrong, level_by_store, simulates}
 use Rattle.cmm_hoisted.proofs.Steps.{Together, landed_by, lands}
-
--- ---- steps before a run that follows
-
-module _ {S T L C E : Type 0} {A : Machine S L C E} {B : Machine T L C E} {a : S → ℕ} {b : T → ℕ} where
-  -- Steps that are passed while the first machine makes its first one belong to each of its steps.
-  preceded : {s : S} {t : T} (more : ℕ) → Level A B s t → Leads B b (Passes A B s) (Follows A a B b s) 0 more t → Follows A (λ u. a u + more) B b s t
-  preceded {s = s} {t = t} more level first = record { leads = by }
-    where
-      by : (m : ℕ) → A.wrong (after A m s) ≡ false →
-          Leads B b (λ u. (i : ℕ) × (i < m) × Passes A B (after A i s) u) (Level A B (after A m s)) m (spent A (λ u. a u + more) m s) t
-      by zero right = record { steps = 0; through = λ i less. absurd (omega arith); arrives = level; enough = omega arith; within = omega arith }
-      by (suc m) right =
-          let dearer = spent_scaled A 1 1 a (λ u. a u + more) (λ u. omega arith) m s in
-          joined {l = 0} {m = more} {n = suc m} {o = spent A a (suc m) s}
-          (weaker first (λ u p. (0, omega arith, p)) (λ u follows. follows) (omega arith) (λ n le. le)) (λ u follows. follows.leads (suc m) right)
-          (omega arith) (omega (arith, dearer))
 
 -- ---- the store after a landing
 
@@ -185,8 +170,7 @@ module _ (s : Setting) (graphs : List Graph) (input : List ℕ) (cost : State Po
     from : (b : State Position) → Together (Stand r) first b → Runs (longest s.program + (most + r.chained)) b
     from b together =
         let before = are_costs r most (omega (arith, small, within_longest s.program.procs)) in
-        follows_simulated (machine_lasts (todo_control s.program) s) (follow s r.olds input (cost_before r most) (most + r.chained) set bytes have.are before)
-        (simulates go costs) together
+        lazily_trans (follow s r.olds input (cost_before r most) (most + r.chained) set bytes have.are before) (follows_of_simulates (simulates go costs) together)
 
     follows : Runs (longest s.program + longest s.program) (graph_start graphs s input)
     follows = elim (lands go (Instead s.program.main []) (first_store s input) [] [] tt) [

@@ -4,6 +4,7 @@ use Rattle.std.specs.Prelude.{Bool, true, false, Option, Some, None}
 use Rattle.std.specs.List.{AllZip}
 use Rattle.cmm_simulation.proofs.Paths.{joined, one_step, weaker}
 use Rattle.cmm_simulation.proofs.Prefixes.{within_refl}
+use Rattle.cmm_simulation.proofs.Simulations.{stepwise}
 use Rattle.cmm_simulation.specs.Machine.{Machine}
 use Rattle.cmm_simulation.specs.Observing.{Level, Passes}
 use Rattle.cmm_simulation.specs.Seen.{IsWithin, but_input}
@@ -160,7 +161,6 @@ module _ {r : Hoisted} {most : ℕ} {cost : State Position → ℕ} (go : GoOn r
     goes (Wrong error) status leads is_leads = goes_other (λ running. absurd (cc (running, status)))
 
   pub simulates : Simulates (before r) (cost_before r most) (machine r) cost (Together (Stand r))
-  simulates = record {
-    level = λ a b is. level_by_store (graph_control r.olds) (graph_control r.news) r.setting a b is.store;
-    leads = λ a b is right. goes a b is a.store.status refl (leads_on r.olds a) refl;
-  }
+  simulates =
+      stepwise (λ a b is. level_by_store (graph_control r.olds) (graph_control r.news) r.setting a b is.store)
+      (λ a b is right. goes a b is a.store.status refl (leads_on r.olds a) refl)

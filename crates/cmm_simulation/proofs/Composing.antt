@@ -1,11 +1,12 @@
 -- Followings and simulations compose, where what the steps of B cost when it follows is what they may cost when it is followed. The slacks of followings are multiplied; the ranks of
 -- simulations add up where the first one's does not rise while the second may pass steps over.
-use Rattle.std.proofs.Common.{◌≡◌, ◌⊎◌, ℕ, zero, suc, ◌+◌, ◌-◌, ◌*◌, ◌<◌, ◌≤◌, inl, inr, refl, sym, ◌∙◌, subst, arith, mul-le-mul_left, nat_lt}
+use Rattle.std.proofs.Common.{◌≡◌, ◌⊎◌, ℕ, zero, suc, ◌+◌, ◌-◌, ◌*◌, ◌<◌, ◌≤◌, inl, inr, refl, sym, ap, ◌∙◌, subst, arith, mul-le-mul_left, nat_lt}
 use Rattle.std.proofs.Math.Nat.{mul_assoc}
 use Rattle.std.proofs.lemmas.Bool.Decides.{nat_tests}
 use Rattle.std.specs.Prelude.{Bool, true, false, min}
 use Rattle.cmm_simulation.proofs.Paths.{weaker}
 use Rattle.cmm_simulation.proofs.Prefixes.{within_trans}
+use Rattle.cmm_simulation.proofs.Runs.{after-add, spent-add, spent_scaled}
 use Rattle.cmm_simulation.proofs.Simulations.{each_leads, run_leads, stepwise}
 use Rattle.cmm_simulation.specs.Following.{FollowsLazily}
 use Rattle.cmm_simulation.specs.Machine.{Machine, IsRightUntil, after, spent}
@@ -172,3 +173,69 @@ module _ {S T U L C E : Type 0} {A : Machine S L C E} {B : Machine T L C E} {D :
       by s t u path right behind (inl run) =
           weaker run (λ v p. p) (λ v below. (after B path.steps t, path.arrives, below.2)) (omega arith) (λ n le. omega (arith, le, path.within))
       by s t u path right behind (inr passed) = absurd (omega (arith, passed.1, path.enough))
+
+-- ---- steps before a run that follows
+
+module _ {S T L C E : Type 0} {A : Machine S L C E} {B : Machine T L C E} {a : S → ℕ} {b : T → ℕ} {slack : ℕ} {s : S} {t : T} (more : ℕ) (level : Level A B s t)
+    (first : Leads B b (Passes A B s) (FollowsLazily A a B b slack s) 0 more t) where
+  abbrev follows : FollowsLazily A a B b slack s (after B first.steps t)
+  follows = first.arrives
+
+  abbrev done_behind : ℕ → ℕ
+  done_behind zero = 0
+  done_behind (suc m) = first.steps + follows.done (suc m)
+
+  behind : (n : ℕ) → after B (first.steps + n) t ≡ after B n (after B first.steps t)
+  behind n = after-add B first.steps n t
+
+  ascends_behind : (m : ℕ) → done_behind m ≤ done_behind (suc m)
+  ascends_behind zero = omega arith
+  ascends_behind (suc m) = omega (arith, follows.ascends (suc m))
+
+  level_behind : (m : ℕ) → IsRightUntil A m s → Level A B (after A m s) (after B (done_behind m) t)
+  level_behind zero right = level
+  level_behind (suc m) right = subst (λ (u : T). Level A B (after A (suc m) s) u) (sym (behind (follows.done (suc m)))) (follows.level (suc m) right)
+
+  passes_later : (m n : ℕ) → IsRightUntil A (suc m) s → first.steps ≤ n → follows.done m ≤ n - first.steps → n < first.steps + follows.done (suc m) → Passes A B (after A m s) (after B n t)
+  passes_later m n right past least less =
+      let same : first.steps + (n - first.steps) ≡ n = omega (arith, past) in
+      subst (λ (i : ℕ). Passes A B (after A m s) (after B i t)) same
+      (subst (λ (u : T). Passes A B (after A m s) u) (sym (behind (n - first.steps))) (follows.passes m (n - first.steps) right least (omega (arith, less, past))))
+
+  passes_behind : (m n : ℕ) → IsRightUntil A (suc m) s → done_behind m ≤ n → n < done_behind (suc m) → Passes A B (after A m s) (after B n t)
+  passes_behind zero n right le less = by (grind arith)
+    where
+      by : (n < first.steps) ⊎ (first.steps ≤ n) → Passes A B s (after B n t)
+      by (inl before) = first.through n before
+      by (inr past) = passes_later 0 n right past (omega (arith, follows.begins)) less
+  passes_behind (suc m) n right le less = passes_later (suc m) n right (omega (arith, le)) (omega (arith, le)) less
+
+  within_behind : (m : ℕ) → IsRightUntil A m s → spent B b (done_behind m) t ≤ spent A (λ u. a u + more) m s
+  within_behind zero right = omega arith
+  within_behind (suc m) right =
+      omega (
+        arith,
+        first.within,
+        follows.within (suc m) right,
+        spent-add B b first.steps (follows.done (suc m)) t,
+        spent_scaled A 1 1 a (λ u. a u + more) (λ u. omega arith) m s,
+      )
+
+  enough_behind : (m : ℕ) → IsRightUntil A m s → m < slack * suc (done_behind m)
+  enough_behind zero right =
+      let same : slack * suc (follows.done 0) ≡ slack * 1 = ap (λ (d : ℕ). slack * suc d) follows.begins in omega (arith, follows.enough 0 right, same)
+  enough_behind (suc m) right =
+      let more : slack * suc (follows.done (suc m)) ≤ slack * suc (first.steps + follows.done (suc m)) = mul-le-mul_left slack (omega arith) in
+      omega (arith, follows.enough (suc m) right, more)
+
+  -- steps that are passed while the first machine makes its first one belong to each of its steps
+  pub preceded : FollowsLazily A (λ u. a u + more) B b slack s t
+  preceded = record {
+    done = done_behind;
+    begins = refl;
+    ascends = ascends_behind;
+    level = level_behind;
+    passes = passes_behind;
+    within = within_behind;
+    enough = enough_behind;
+  }

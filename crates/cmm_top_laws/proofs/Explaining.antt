@@ -1,13 +1,14 @@
 -- The C-- machine explains a run of an image that agrees with it.
-use Rattle.std.proofs.Common.{◌≡◌, ◌≢◌, ℕ, ◌+◌, ◌*◌, ◌≤◌, ◌++◌, true, false, List, Option, Some, None, IfSome, refl, ap, sym, ◌∙◌, subst, arith}
+use Rattle.std.proofs.Common.{◌≡◌, ◌≢◌, ◌⊎◌, ℕ, ◌+◌, ◌*◌, ◌<◌, ◌≤◌, ◌++◌, inl, inr, true, false, List, Option, Some, None, IfSome, refl, ap, sym, ◌∙◌, subst, arith, mul-le-mul_left}
 use Rattle.rv_table.specs.declared.request.Request.TheVariants as request
 use Rattle.rv_table.specs.declared.trap.Trap.{Trap}
 use Rattle.rv_table.specs.Machine as rv
 use Rattle.rv_table.specs.Machine.{instruction_step}
-use Rattle.cmm_simulation.specs.Machine.{Lasts, Stands, after}
-use Rattle.cmm_simulation.specs.Seen.{Event, IsWithin, End}
+use Rattle.cmm_simulation.specs.Agreement.{Agrees, GoesWrong, IsMatched, StandsAs}
+use Rattle.cmm_simulation.specs.Machine.{Stands, after}
+use Rattle.cmm_simulation.specs.Seen.{Event, Input, IsWithin, End, Seen}
 use Rattle.cmm_simulation.proofs.Prefixes.{within_trans}
-use Rattle.cmm_simulation.proofs.Runs.{grows_until, over_until, right_until}
+use Rattle.cmm_simulation.proofs.Runs.{grows_until, over_until}
 use Rattle.cmm_script.specs.Walk.{Activation}
 use Rattle.cmm_program.specs.Acts.{Act}
 use Rattle.cmm_program.specs.Acts as act
@@ -19,20 +20,18 @@ use Rattle.cmm_program.specs.Todo.{Todo, todo_control}
 use Rattle.cmm_program.specs.Walks.{walk_of}
 use Rattle.cmm_machine_laws.specs.Observed as machine
 use Rattle.cmm_machine_laws.specs.Observed.{Call, Ending, ending_of}
-use Rattle.cmm_machine_laws.proofs.Shared.{machine_lasts}
 use Rattle.cmm_image_machine.specs.Machine as image
 use Rattle.cmm_image_machine.specs.Machine.{Launch, Run, first_run, image_after, map_of, region_of}
 use Rattle.cmm_image_machine.specs.Observed.{asked_at, event_at, has_failed, image_machine, seen_of}
 use Rattle.cmm_image_machine.specs.Walks.{chain_walk}
 use Rattle.cmm_image_machine.proofs.Shared.{images_last, input_kept, runs_are_the_machine}
-use Rattle.cmm_simulation.specs.OnceBegun.{AgreesOnceBegun}
 use Rattle.cmm_walk.specs.declared.chain.Torn.{Torn}
 use Rattle.cmm_run.specs.declared.outcome.Outcome.{Outcome}
 use Rattle.cmm_run.specs.declared.outcome.Outcome.TheVariants as outcome
 use Rattle.cmm_run.specs.Outside.{Outside as Streams}
 use Rattle.cmm_run.specs.Runs as runs
-use Rattle.cmm_run.specs.Runs.{Comes, Ends, Runs, answer_of}
-use Rattle.cmm_top_laws.specs.Explained.{Gave, IsExplained, Shows, ShowsAll, is_fault, machine_in, state_at}
+use Rattle.cmm_run.specs.Runs.{Comes, Ends, IsBeforeInput, Runs, answer_of}
+use Rattle.cmm_top_laws.specs.Explained.{Errs, Gave, IsExplained, Shows, ShowsAll, StandsThere, is_fault, machine_in, state_at}
 use Rattle.cmm_top_laws.specs.Laws.{RunsAreExplained}
 
 -- ---- how runs end
@@ -119,6 +118,15 @@ fault_ends_nothing answer (c.Done value) fault is = absurd (cc (sym fault ∙ ap
 fault_ends_nothing answer c.Stopped fault is = absurd (cc (sym fault ∙ ap is_fault is))
 fault_ends_nothing answer c.StackLimit fault is = absurd (cc (sym fault ∙ ap is_fault is))
 
+-- and no run that stands somewhere at the limit answers that the input failed
+no_ending : (status : image.Status) → answer_of status ≢ outcome.InputFault
+no_ending image.Running is = absurd (cc is)
+no_ending (image.Ended (c.Done value)) is = absurd (cc is)
+no_ending (image.Ended c.Stopped) is = absurd (cc is)
+no_ending (image.Ended c.StackLimit) is = absurd (cc is)
+no_ending (image.Trapped kind pc) is = absurd (cc is)
+no_ending (image.Torn b) is = absurd (cc is)
+
 -- and no image that has not failed answers by a trap or a break
 right_has_no_trap : (status : image.Status) (trap : Trap) → has_failed status ≡ false → answer_of status ≢ outcome.Trap trap
 right_has_no_trap image.Running trap right is = absurd (cc is)
@@ -150,64 +158,25 @@ gave before after run input told left whole = record { rest = run.input; had = h
 -- ---- the law
 
 module _ (s : Setting) (l : Launch) (factor n : ℕ) (before after' : Streams) (input : List ℕ) (told : IfSome before.input (λ left. left ≡ input))
-    (agrees : AgreesOnceBegun (machine_in s) (image_machine l) factor (start s input) (first_run l input)) where
+    (agrees : Agrees (machine_in s) (image_machine l) factor factor (start s input) (first_run l input)) where
   abbrev run_at : ℕ → Run
   run_at k = image_after l input k
 
   abbrev right_at : ℕ → Type 0
   right_at m = (machine_in s).wrong (state_at s input m) ≡ false
 
-  lasts : Lasts (machine_in s)
-  lasts = machine_lasts (todo_control s.program) s
-
-  abbrev late : ℕ
-  late = factor * (n + 1)
-
   all_shown : (k : ℕ) → runs.Shows before after' (run_at k) → ShowsAll before after' (seen_of (run_at k))
   all_shown k shows = record { output = shows.output; log = shows.log; taken = gave before after' (run_at k) input told shows.input (input_kept l input k) }
 
-  -- what the image shows by k instructions, the machine shows by the late step
-  shown_late : (k : ℕ) → k ≤ n → right_at late → IsWithin (seen_of (run_at k)) ((machine_in s).seen (state_at s input late))
-  shown_late k le right = within_trans
-      (subst (λ (run : Run). IsWithin (seen_of run) ((machine_in s).seen (state_at s input (factor * (k + 1))))) (runs_are_the_machine l input k)
-      (agrees.up k (right_until (machine_in s) lasts (factor * (k + 1)) late _ (grind (arith, le)) right)).seen)
-      (grows_until (machine_in s) lasts (factor * (k + 1)) late _ (grind (arith, le)))
+  -- ---- what the machine does in time
 
-  -- the walk of the image after n instructions
-  abbrev walk_shown : Option (List Activation)
-  walk_shown = chain_walk l.image (region_of l) (run_at n).machine
-
-  image_asks : (run : Run) → after (image_machine l) n (first_run l input) ≡ run → (how : c.Outcome) → run.status ≡ image.Ended how →
-      (image_machine l).asks (after (image_machine l) n (first_run l input)) ≡ at_end (ending_of how (chain_walk l.image (region_of l) run.machine))
-  image_asks run same how is = ap (image_machine l).asks same ∙ ap (event_at l run.machine) is
-
-  -- where the image has ended, so has the machine by the late step, and it shows the same
-  machine_stands : (how : c.Outcome) → (run_at n).status ≡ image.Ended how → right_at late →
-      Stands (machine_in s) (End (ending_of how walk_shown)) ((image_machine l).seen (after (image_machine l) n (first_run l input))) (state_at s input late)
-  machine_stands how is right = (agrees.up n right).ends (ending_of how walk_shown) (image_asks (run_at n) (runs_are_the_machine l input n) how is)
-
-  ended_late : (how : c.Outcome) → (run_at n).status ≡ image.Ended how → right_at late →
-      ((state_at s input late).store.status ≡ c.Ended how) × ((machine_in s).seen (state_at s input late) ≡ seen_of (run_at n))
-  ended_late how is right =
-      let there = machine_stands how is right in
-      (machine_ended s _ _ _ how walk_shown there.0, there.1 ∙ ap seen_of (runs_are_the_machine l input n))
-
-  -- and where the client stopped it, it leaves the same walk
-  walk_late : (run_at n).status ≡ image.Ended c.Stopped → right_at late → walk_shown ≡ Some (walk_of s (state_at s input late).store)
-  walk_late is right =
-      let at = state_at s input late in
-      let asks : at_end (ending_of c.Stopped (Some (walk_of s at.store))) ≡ at_end (ending_of c.Stopped walk_shown) =
-      sym (ap (λ (status : c.Status). machine.event_at s status at.store (next_act (todo_control s.program) at.controls)) (ended_late c.Stopped is right).0)
-      ∙ (machine_stands c.Stopped is right).0 in
-      sym (ap (λ (e : Ending). e.walk) (end_is _ _ asks))
-
-  -- what the machine shows in time, the image shows
+  -- what it shows, the image shows
   shown_soon : (m : ℕ) → factor * (m + 1) ≤ n → right_at m → IsWithin ((machine_in s).seen (state_at s input m)) (seen_of (run_at n))
   shown_soon m le right = within_trans (agrees.down m right).seen
       (subst (λ (run : Run). IsWithin (seen_of (after (image_machine l) (factor * (m + 1)) (first_run l input))) (seen_of run)) (runs_are_the_machine l input n)
       (grows_until (image_machine l) (images_last l) (factor * (m + 1)) n (first_run l input) le))
 
-  -- where the machine has ended in time, so has the image, and it shows the same
+  -- where it has ended, so has the image, and it shows the same
   ended_soon : (m : ℕ) → factor * (m + 1) ≤ n → (how : c.Outcome) → (state_at s input m).store.status ≡ c.Ended how →
       ((run_at n).status ≡ image.Ended how) × (seen_of (run_at n) ≡ (machine_in s).seen (state_at s input m))
   ended_soon m le how is =
@@ -224,20 +193,114 @@ module _ (s : Setting) (l : Launch) (factor n : ℕ) (before after' : Streams) (
       asks_end : (at : State Todo) (how : c.Outcome) → at.store.status ≡ c.Ended how → (machine_in s).asks at ≡ at_end (ending_of how (Some (walk_of s at.store)))
       asks_end at how is = ap (λ (status : c.Status). machine.event_at s status at.store (next_act (todo_control s.program) at.controls)) is
 
-  -- all that is said of a run whose answer is that of its state at the limit
-  module _ (answer : Outcome) (ends : Ends before after' (run_at n) answer) where
-    told_soon : (m : ℕ) → factor * (m + 1) ≤ n → (how : c.Outcome) → (state_at s input m).store.status ≡ c.Ended how →
-        (answer ≡ answer_of (image.Ended how)) × (seen_of (run_at n) ≡ (machine_in s).seen (state_at s input m))
-    told_soon m le how is = let there = ended_soon m le how is in (ends.answer ∙ ap answer_of there.0, there.1)
+  told_soon : (answer : Outcome) → Ends before after' (run_at n) answer → (m : ℕ) → factor * (m + 1) ≤ n → (how : c.Outcome) → (state_at s input m).store.status ≡ c.Ended how →
+      (answer ≡ answer_of (image.Ended how)) × (seen_of (run_at n) ≡ (machine_in s).seen (state_at s input m))
+  told_soon answer ends m le how is = let there = ended_soon m le how is in (ends.answer ∙ ap answer_of there.0, there.1)
 
-    told_late : right_at late → (how : c.Outcome) → answer ≡ answer_of (image.Ended how) →
-        ((state_at s input late).store.status ≡ c.Ended how) × ((machine_in s).seen (state_at s input late) ≡ seen_of (run_at n))
-    told_late right how is = ended_late how (answer_ended (run_at n).status how (sym is ∙ ends.answer)) right
+  -- ---- where the image stands, the machine does
 
-    right_late : right_at late → has_failed (run_at n).status ≡ false
-    right_late right = sym (ap (image_machine l).wrong (runs_are_the_machine l input n)) ∙ agrees.right n right
+  abbrev late : ℕ
+  late = factor * (n + 1)
 
-  -- all that is said of a run that came to this state where the client stopped it
+  in_time : (k : ℕ) → k ≤ n → factor * (k + 1) ≤ late
+  in_time k le = mul-le-mul_left factor (omega (arith, le))
+
+  -- after k instructions
+  module _ (k : ℕ) (le : k ≤ n) where
+    abbrev Matched : Type 0
+    Matched = IsMatched (machine_in s) (image_machine l) (factor * (k + 1)) (start s input) (after (image_machine l) k (first_run l input))
+
+    erred : GoesWrong (machine_in s) (image_machine l) factor k (start s input) (first_run l input) → Errs s input late (seen_of (run_at k))
+    erred wrong = record {
+      steps = wrong.steps;
+      soon = omega (arith, wrong.soon, in_time wrong.taken (omega (arith, wrong.early, le)));
+      right = wrong.right;
+      error = wrong.error;
+      before =
+          subst (λ (x : Seen ℕ). IsWithin x (seen_of (run_at k))) (sym wrong.level.seen)
+          (subst (λ (run : Run). IsWithin (seen_of (after (image_machine l) wrong.taken (first_run l input))) (seen_of run)) (runs_are_the_machine l input k)
+          (grows_until (image_machine l) (images_last l) wrong.taken k (first_run l input) wrong.early));
+    }
+
+    module _ (at : Matched) where
+      stands : StandsAs (machine_in s) (image_machine l) (state_at s input at.steps) (run_at k)
+      stands =
+          subst (λ (run : Run). StandsAs (machine_in s) (image_machine l) (state_at s input at.steps) run) (runs_are_the_machine l input k) at.stands
+
+      abbrev walk_shown : Option (List Activation)
+      walk_shown = chain_walk l.image (region_of l) (run_at k).machine
+
+      -- where the image has ended, so has the machine, and it shows the same
+      ends_there : (how : c.Outcome) → (run_at k).status ≡ image.Ended how → Stands (machine_in s) (End (ending_of how walk_shown)) (seen_of (run_at k)) (state_at s input at.steps)
+      ends_there how is = stands.asks (End (ending_of how walk_shown)) (ap (event_at l (run_at k).machine) is)
+
+      ended_there : (how : c.Outcome) → (run_at k).status ≡ image.Ended how →
+          ((state_at s input at.steps).store.status ≡ c.Ended how) × ((machine_in s).seen (state_at s input at.steps) ≡ seen_of (run_at k))
+      ended_there how is = let there = ends_there how is in (machine_ended s _ _ _ how walk_shown there.0, there.1)
+
+      -- and where the client stopped it, it leaves the same walk
+      walk_there : (run_at k).status ≡ image.Ended c.Stopped → walk_shown ≡ Some (walk_of s (state_at s input at.steps).store)
+      walk_there is =
+          let state = state_at s input at.steps in
+          let asks : at_end (ending_of c.Stopped (Some (walk_of s state.store))) ≡ at_end (ending_of c.Stopped walk_shown) =
+          sym (ap (λ (status : c.Status). machine.event_at s status state.store (next_act (todo_control s.program) state.controls)) (ended_there c.Stopped is).0)
+          ∙ (ends_there c.Stopped is).0 in
+          sym (ap (λ (e : Ending). e.walk) (end_is _ _ asks))
+
+      -- where the image is to take from the input, so is the machine
+      takes_there : IsBeforeInput l (run_at k) → Stands (machine_in s) Input (seen_of (run_at k)) (state_at s input at.steps)
+      takes_there here = stands.asks Input (ap (event_at l (run_at k).machine) here.running ∙ ap (asked_at l (run_at k).machine) here.asks)
+
+      soon_enough : at.steps < late
+      soon_enough = omega (arith, at.soon, in_time k le)
+
+      -- how a call whose answer is no fault stands there
+      ended_stands : (answer : Outcome) (stood : rv.State) → (answer ≡ outcome.Stopped → (run_at k).machine ≡ stood) → Ends before after' (run_at k) answer →
+          StandsThere s input late (seen_of (run_at k)) answer (chain_walk l.image (region_of l) stood)
+      ended_stands answer stood is_stood ends = record {
+        steps = at.steps;
+        soon = soon_enough;
+        right = at.right;
+        least = stands.least;
+        within = stands.most;
+        comes = λ how is. ended_there how (answer_ended (run_at k).status how (sym is ∙ ends.answer));
+        takes = λ fault. absurd (no_ending (run_at k).status (sym ends.answer ∙ fault));
+        leaves = λ is. ap (chain_walk l.image (region_of l)) (sym (is_stood is)) ∙ walk_there (answer_ended (run_at k).status c.Stopped (sym is ∙ ends.answer));
+        no_trap = λ trap is. right_has_no_trap (run_at k).status trap stands.right (sym ends.answer ∙ is);
+        no_break = λ torn is. right_has_no_break (run_at k).status torn stands.right (sym ends.answer ∙ is);
+      }
+
+      -- and how one stands whose input failed, or its output
+      input_stands : (walk : Option (List Activation)) → IsBeforeInput l (run_at k) → StandsThere s input late (seen_of (run_at k)) outcome.InputFault walk
+      input_stands walk here = record {
+        steps = at.steps;
+        soon = soon_enough;
+        right = at.right;
+        least = stands.least;
+        within = stands.most;
+        comes = λ how is. absurd (fault_ends_nothing outcome.InputFault how refl is);
+        takes = λ fault. takes_there here;
+        leaves = λ is. absurd (cc is);
+        no_trap = λ trap is. absurd (cc is);
+        no_break = λ torn is. absurd (cc is);
+      }
+
+      output_stands : (walk : Option (List Activation)) → StandsThere s input late (seen_of (run_at k)) outcome.OutputFault walk
+      output_stands walk = record {
+        steps = at.steps;
+        soon = soon_enough;
+        right = at.right;
+        least = stands.least;
+        within = stands.most;
+        comes = λ how is. absurd (fault_ends_nothing outcome.OutputFault how refl is);
+        takes = λ is. absurd (cc is);
+        leaves = λ is. absurd (cc is);
+        no_trap = λ trap is. absurd (cc is);
+        no_break = λ torn is. absurd (cc is);
+      }
+
+  -- ---- all that is said of a call
+
   abbrev Explained : Outcome → rv.State → Type 0
   Explained answer stood = IsExplained s factor n before after' answer (chain_walk l.image (region_of l) stood)
 
@@ -253,11 +316,10 @@ module _ (s : Setting) (l : Launch) (factor n : ℕ) (before after' : Streams) (
     shows = subst (λ (T : Type 0). T) (sym shows) (all_shown n ends.shows);
     soon = λ _ m le right. shown_soon m le right;
     ended = λ _ m le how is. told_soon answer ends m le how is;
-    within = shown_late n (omega arith);
-    comes = told_late answer ends;
-    no_trap = λ right trap is. right_has_no_trap (run_at n).status trap (right_late answer ends right) (sym ends.answer ∙ is);
-    no_break = λ right torn is. right_has_no_break (run_at n).status torn (right_late answer ends right) (sym ends.answer ∙ is);
-    leaves = λ is right. ap (chain_walk l.image (region_of l)) (sym (at is)) ∙ walk_late (answer_ended (run_at n).status c.Stopped (sym is ∙ ends.answer)) right;
+    stands = elim (agrees.up n) [
+      | inl matched ↦ inl (ended_stands n (omega arith) matched answer stood at ends)
+      | inr wrong ↦ inr (erred n (omega arith) wrong)
+    ];
   }
 
   explained : (answer : Outcome) (stood : rv.State) → StoodAt answer stood → Comes l n input before after' answer → Explained answer stood
@@ -268,11 +330,10 @@ module _ (s : Setting) (l : Launch) (factor n : ℕ) (before after' : Streams) (
     shows = all_shown comes.0 comes.3;
     soon = λ is _ _ _. absurd (cc is);
     ended = λ is _ _ _ _. absurd (cc is);
-    within = shown_late comes.0 (omega (arith, comes.1));
-    comes = λ _ how is. absurd (fault_ends_nothing outcome.InputFault how refl is);
-    no_trap = λ _ trap is. absurd (cc is);
-    no_break = λ _ torn is. absurd (cc is);
-    leaves = λ is _. absurd (cc is);
+    stands = elim (agrees.up comes.0) [
+      | inl matched ↦ inl (input_stands comes.0 (omega (arith, comes.1)) matched (chain_walk l.image (region_of l) stood) comes.2)
+      | inr wrong ↦ inr (erred comes.0 (omega (arith, comes.1)) wrong)
+    ];
   }
   explained outcome.OutputFault stood at comes = record {
     input = input;
@@ -281,11 +342,10 @@ module _ (s : Setting) (l : Launch) (factor n : ℕ) (before after' : Streams) (
     shows = record { output = comes.output; log = comes.log };
     soon = λ is _ _ _. absurd (cc is);
     ended = λ is _ _ _ _. absurd (cc is);
-    within = shown_late n (omega arith);
-    comes = λ _ how is. absurd (fault_ends_nothing outcome.OutputFault how refl is);
-    no_trap = λ _ trap is. absurd (cc is);
-    no_break = λ _ torn is. absurd (cc is);
-    leaves = λ is _. absurd (cc is);
+    stands = elim (agrees.up n) [
+      | inl matched ↦ inl (output_stands n (omega arith) matched (chain_walk l.image (region_of l) stood))
+      | inr wrong ↦ inr (erred n (omega arith) wrong)
+    ];
   }
   explained (outcome.Done value) stood at comes = ended_explained (outcome.Done value) stood at refl comes
   explained outcome.Stopped stood at comes = ended_explained outcome.Stopped stood at refl comes

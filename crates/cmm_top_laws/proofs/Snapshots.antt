@@ -67,6 +67,14 @@ snapshots_walk_so one keep image script stack stood bytes walk saved walks name 
     written_so p walk w (same ∙ walks) walked.walked
 
 pub saved_runs_walk_so : ImagesAreOne → SnapshotsWalkSo → SavedRunsWalkSo
-saved_runs_walk_so one walk_so contents names client limits saved ran so stopped has name w walked spelled same right =
-    let image : walked.program.image ≡ so.image = one walked.spelled.0 walked.program.image so.image walked.spelled.2 spelled in
-    walk_so so.image so.script limits.stack so.stood has.bytes _ has.snapshot (so.explained.leaves stopped right) name saved w walked image same
+saved_runs_walk_so one walk_so contents names client limits saved ran so stopped has name w walked spelled same = by so.explained.stands
+  where
+    by : (stands : _) →
+        elim stands as (λ _. Type 0) [
+          | inl there ↦ WalksSo (walk_of (setting_of so.program so.image so.script limits.stack) (state_at (setting_of so.program so.image so.script limits.stack) so.explained.input there.steps).store) w
+          | inr errs ↦ Unit {0}
+        ]
+    by (inl there) =
+        let image : walked.program.image ≡ so.image = one walked.spelled.0 walked.program.image so.image walked.spelled.2 spelled in
+        walk_so so.image so.script limits.stack so.stood has.bytes _ has.snapshot (there.leaves stopped) name saved w walked image same
+    by (inr errs) = tt

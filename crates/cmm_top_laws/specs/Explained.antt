@@ -1,9 +1,9 @@
 -- What it is that the C-- machine explains what a call wrote, took and answered.
-use Rattle.std.specs.Prelude.{◌≡◌, ◌≢◌, ℕ, ◌+◌, ◌*◌, ◌≤◌, ◌++◌, Bool, true, false, List, IfSome, Option, Some}
+use Rattle.std.specs.Prelude.{◌≡◌, ◌≢◌, ◌⊎◌, ℕ, suc, ◌+◌, ◌*◌, ◌<◌, ◌≤◌, ◌++◌, Bool, true, false, List, IfSome, Option, Some}
 use Rattle.rv_table.specs.declared.trap.Trap.{Trap}
 use Rattle.cmm_outside.specs.Output.{Appends, AppendsFront}
-use Rattle.cmm_simulation.specs.Machine.{Machine, after}
-use Rattle.cmm_simulation.specs.Seen.{Seen, IsWithin}
+use Rattle.cmm_simulation.specs.Machine.{Machine, Stands, after}
+use Rattle.cmm_simulation.specs.Seen.{Seen, Input, IsWithin}
 use Rattle.cmm_script.specs.Walk.{Activation}
 use Rattle.cmm_program.specs.Control.{State}
 use Rattle.cmm_program.specs.Machine.{start}
@@ -66,8 +66,32 @@ machine_in s = machine_of (todo_control s.program) s
 abbrev pub state_at : Setting → List ℕ → ℕ → State Todo
 state_at s input m = after (machine_in s) m (start s input)
 
--- A call within n instructions, with this outcome and with this walk of the stack at its end, wrote and took what the C-- machine does, where a step of it takes at most `factor` instructions, and one instruction
--- at most as many steps: for the input that there is, where it tells its bytes, or for some input of which it gave the front that was taken.
+-- After some steps, fewer than so many, the machine stands where the call ended: it has shown no more than was written and taken, and shows that with its next step; where the
+-- call ended by the program, its client or the stack's limit, it has ended so, with just what was shown; where the input failed, it is about to take from it; where the client
+-- stopped the call, the walk is the machine's; and the call came to no trap and no break of the chain.
+pub record StandsThere (s : Setting) (input : List ℕ) (most : ℕ) (shown : Seen ℕ) (answer : Outcome) (walk : Option (List Activation)) : Type 0 where
+  pub steps : ℕ
+  pub soon : steps < most
+  pub right : (machine_in s).wrong (state_at s input steps) ≡ false
+  pub least : IsWithin ((machine_in s).seen (state_at s input steps)) shown
+  pub within : IsWithin shown ((machine_in s).seen (state_at s input (suc steps)))
+  pub comes : (how : c.Outcome) → answer ≡ answer_of (image.Ended how) →
+      ((state_at s input steps).store.status ≡ c.Ended how) × ((machine_in s).seen (state_at s input steps) ≡ shown)
+  pub takes : answer ≡ outcome.InputFault → Stands (machine_in s) Input shown (state_at s input steps)
+  pub leaves : answer ≡ outcome.Stopped → walk ≡ Some (walk_of s (state_at s input steps).store)
+  pub no_trap : (trap : Trap) → answer ≢ outcome.Trap trap
+  pub no_break : (torn : Torn) → answer ≢ outcome.Torn torn
+
+-- The machine commits an unchecked error within so many steps, and all that it has shown before that was written and taken.
+pub record Errs (s : Setting) (input : List ℕ) (most : ℕ) (shown : Seen ℕ) : Type 0 where
+  pub steps : ℕ
+  pub soon : steps < most
+  pub right : (machine_in s).wrong (state_at s input steps) ≡ false
+  pub error : (machine_in s).wrong (state_at s input (suc steps)) ≡ true
+  pub before : IsWithin ((machine_in s).seen (state_at s input steps)) shown
+
+-- A call within n instructions, with this outcome and with this walk of the stack at its end, wrote and took what the C-- machine does, where a step of it takes at most `factor` instructions:
+-- for the input that there is, where it tells its bytes, or for some input of which it gave the front that was taken.
 pub record IsExplained (s : Setting) (factor n : ℕ) (before after : Streams) (answer : Outcome) (walk : Option (List Activation)) : Type 0 where
   pub input : List ℕ
   pub told : IfSome before.input (λ left. left ≡ input)
@@ -80,12 +104,5 @@ pub record IsExplained (s : Setting) (factor n : ℕ) (before after : Streams) (
   -- and no more, where it has ended by then: the outcome is its own
   pub ended : is_fault answer ≡ false → (m : ℕ) → factor * (m + 1) ≤ n → (how : c.Outcome) → (state_at s input m).store.status ≡ c.Ended how →
       (answer ≡ answer_of (image.Ended how)) × (shown ≡ (machine_in s).seen (state_at s input m))
-  -- Unless the machine has gone wrong by so many steps, it shows by then what was written and taken; it has ended so where the call has; and the call came to no trap
-  -- and no break of the chain.
-  pub within : (machine_in s).wrong (state_at s input (factor * (n + 1))) ≡ false → IsWithin shown ((machine_in s).seen (state_at s input (factor * (n + 1))))
-  pub comes : (machine_in s).wrong (state_at s input (factor * (n + 1))) ≡ false → (how : c.Outcome) → answer ≡ answer_of (image.Ended how) →
-      ((state_at s input (factor * (n + 1))).store.status ≡ c.Ended how) × ((machine_in s).seen (state_at s input (factor * (n + 1))) ≡ shown)
-  pub no_trap : (machine_in s).wrong (state_at s input (factor * (n + 1))) ≡ false → (trap : Trap) → answer ≢ outcome.Trap trap
-  pub no_break : (machine_in s).wrong (state_at s input (factor * (n + 1))) ≡ false → (torn : Torn) → answer ≢ outcome.Torn torn
-  -- where the client stopped it, the walk is the machine's
-  pub leaves : answer ≡ outcome.Stopped → (machine_in s).wrong (state_at s input (factor * (n + 1))) ≡ false → walk ≡ Some (walk_of s (state_at s input (factor * (n + 1))).store)
+  -- and it stands where the call ended, or has erred on the way
+  pub stands : StandsThere s input (factor * (n + 1)) shown answer walk ⊎ Errs s input (factor * (n + 1)) shown

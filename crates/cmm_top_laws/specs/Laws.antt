@@ -1,11 +1,10 @@
 -- What a user relies on: calls do what the C-- machine does.
-use Rattle.std.specs.Prelude.{◌≡◌, ℕ, ◌+◌, ◌*◌, false, IfSome, List, Option, Some}
+use Rattle.std.specs.Prelude.{◌≡◌, ℕ, IfSome, List, Option, Some, inl, inr}
 use Rattle.std.specs.List.{All}
 use Rattle.rv_table.specs.Machine as rv
 use Rattle.cmm_outside.specs.Storage.{Contents}
 use Rattle.cmm_script.specs.declared.script.Script.{Script}
 use Rattle.cmm_script.specs.Walk.{Activation}
-use Rattle.cmm_program.specs.Bounds.{step_factor}
 use Rattle.cmm_program.specs.Machine.{start}
 use Rattle.cmm_program.specs.State.{Setting}
 use Rattle.cmm_program.specs.Walks.{walk_of}
@@ -15,7 +14,7 @@ use Rattle.cmm_image.specs.Images.{SpellsImage}
 use Rattle.cmm_image_machine.specs.Machine.{Launch, first_run, region_of, launch_of}
 use Rattle.cmm_image_machine.specs.Observed.{image_machine}
 use Rattle.cmm_image_machine.specs.Walks.{chain_walk}
-use Rattle.cmm_simulation.specs.OnceBegun.{AgreesOnceBegun}
+use Rattle.cmm_simulation.specs.Agreement.{Agrees}
 use Rattle.cmm_compile.specs.Agreement.{setting_of}
 use Rattle.cmm_run.specs.declared.outcome.Outcome.{Outcome}
 use Rattle.cmm_run.specs.declared.outcome.Outcome.TheVariants.{Stopped}
@@ -38,7 +37,7 @@ use Rattle.cmm_top_laws.specs.Walked.{WalksSo}
 -- the C-- machine explains a run of an image that agrees with it
 abbrev pub RunsAreExplained : Type 0
 RunsAreExplained = (s : Setting) (l : Launch) (factor n : ℕ) (before after : Streams) (answer : Outcome) (stood : rv.State) (runs : Runs l n before after answer stood) →
-    AgreesOnceBegun (machine_in s) (image_machine l) factor (start s runs.input) (first_run l runs.input) →
+    Agrees (machine_in s) (image_machine l) factor factor (start s runs.input) (first_run l runs.input) →
     IsExplained s factor n before after answer (chain_walk l.image (region_of l) stood)
 
 -- where `exec` has run what it built
@@ -73,10 +72,11 @@ SnapshotsWalkSo = (image : ImageParts) (script : Script) (stack : ℕ) (stood : 
     chain_walk image (region_of (launch_of image script stack)) stood ≡ Some walk → (name snapshot : List ℕ) (w : Work) (walked : HasWalked name snapshot w) →
     walked.program.image ≡ image → walked.stopped.0 ≡ bytes → WalksSo walk w
 
--- where the client has stopped a run of what was built, its snapshot was saved, and `walk` has read the same image and the same snapshot, unless the machine has gone wrong
+-- where the client has stopped a run of what was built, its snapshot was saved, and `walk` has read the same image and the same snapshot: wherever the machine stands where the
+-- run ended, as it does unless it has erred on the way, `walk` writes the machine's walk
 abbrev pub SavedRunsWalkSo : Type 0
 SavedRunsWalkSo = (contents : Option Contents) (names : List (List ℕ)) (client : Option (List ℕ)) (limits : RunLimits) (saved : List ℕ) (ran : Work)
     (so : IsMachineOfBuilt contents names client limits (Some saved) ran) → so.answer ≡ Stopped → (has : HasSaved so.image limits.stack so.stood saved ran) →
     (name : List ℕ) (w : Work) (walked : HasWalked name saved w) → SpellsImage walked.spelled.0 so.image → walked.stopped.0 ≡ has.bytes →
-    let s = setting_of so.program so.image so.script limits.stack in let end = state_at s so.explained.input (step_factor so.program * (limits.steps + 1)) in
-    (machine_in s).wrong end ≡ false → WalksSo (walk_of s end.store) w
+    let s = setting_of so.program so.image so.script limits.stack in
+    elim so.explained.stands as (λ _. Type 0) [ inl stands ↦ WalksSo (walk_of s (state_at s so.explained.input stands.steps).store) w | inr errs ↦ Unit {0} ]

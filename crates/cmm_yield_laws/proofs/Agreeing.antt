@@ -2,13 +2,18 @@
 use Rattle.std.proofs.Common.{◌≡◌, inl, ℕ, zero, suc, ◌+◌, ◌-◌, ◌*◌, ◌≤◌, ◌<◌, ◌++◌, false, List, Option, Some, None, refl, sym, ◌∙◌, ap, subst, arith}
 use Rattle.std.specs.List.{All}
 use Rattle.std.proofs.lemmas.Bool.{or_from, or_parts}
+use Rattle.cmm_simulation.proofs.Agreements.{agrees_later, agrees_once_begun}
+use Rattle.cmm_simulation.proofs.Composing.{lazily_trans}
+use Rattle.cmm_simulation.proofs.Followings.{follows_of_simulates}
 use Rattle.cmm_simulation.proofs.Paths.{joined, weaker}
 use Rattle.cmm_simulation.proofs.Prefixes.{within_trans}
-use Rattle.cmm_simulation.proofs.Runs.{right_until}
+use Rattle.cmm_simulation.proofs.Runs.{right_at_start}
 use Rattle.cmm_simulation.proofs.Scaling.{follows_scaled}
+use Rattle.cmm_simulation.proofs.Simulations.{each_leads}
+use Rattle.cmm_simulation.specs.Agreement.{Agrees}
 use Rattle.cmm_simulation.specs.Following.{Follows}
 use Rattle.cmm_simulation.specs.Machine.{Machine, Lasts, after}
-use Rattle.cmm_simulation.specs.Observing.{Level, Passes}
+use Rattle.cmm_simulation.specs.Observing.{Level, Passes, Precedes}
 use Rattle.cmm_simulation.specs.Seen.{Seen, Event, Client, IsPrefix, IsWithin, but_input}
 use Rattle.cmm_simulation.specs.Simulation.{Leads}
 use Rattle.cmm_script.specs.Lines.{yield_line}
@@ -16,6 +21,7 @@ use Rattle.cmm_script.specs.Walk.{Activation}
 use Rattle.cmm_program.specs.Machine.{start as start_of}
 use Rattle.cmm_program.specs.State.{Setting}
 use Rattle.cmm_program.specs.Todo.{todo_control}
+use Rattle.cmm_machine_laws.proofs.Shared.{starts_right}
 use Rattle.cmm_machine_laws.specs.Fitting.{StatesAreSound}
 use Rattle.cmm_program.specs.Memory.{IsByte}
 use Rattle.cmm_machine_laws.specs.Observed.{Call, Ending, LineUnseen, MachineLasts, machine_of}
@@ -25,15 +31,13 @@ use Rattle.cmm_image_machine.specs.Machine.{Launch, Run, first_memory, first_run
 use Rattle.cmm_image_machine.specs.Observed.{image_machine}
 use Rattle.cmm_located.specs.Compiled.{Compiled, Located}
 use Rattle.cmm_located.specs.LocatedMachine.{located_machine, located_start, located_step, tokens_at}
-use Rattle.cmm_emit_laws.proofs.Shared.{agrees_once_begun, first_asks, first_shows, nothing_within, shown_at_start, stands_soon}
-use Rattle.cmm_simulation.specs.OnceBegun.{AgreesOnceBegun, Precedes}
+use Rattle.cmm_emit_laws.proofs.Shared.{first_asks, first_shows, nothing, nothing_within, shown_at_start}
 use Rattle.cmm_emit_laws.specs.Finished.{Finished}
 use Rattle.cmm_emit_laws.specs.Laws.{IsRepresentedIn, most_for_step}
 use Rattle.cmm_emit_laws.specs.Starting.{StartCode}
 use Rattle.cmm_client_laws.proofs.Shared.{lines_come_soon}
 use Rattle.cmm_client_laws.specs.Fits.{event_fits}
 use Rattle.cmm_yield_laws.proofs.Simulating.{images_simulate_yields}
-use Rattle.cmm_simulation.proofs.Composing.{follows_simulated}
 use Rattle.cmm_yield_laws.proofs.Composing.{fits_follow}
 use Rattle.cmm_yield_laws.specs.Laws.{ImagesAgreeWithClients, IsRepresentedWhole, LinesAreThere, fitting_machine}
 use Rattle.cmm_simulation.specs.Tested.{fails}
@@ -70,65 +74,60 @@ module _ (lead : SwitchesLead) (line : LineUnseen) (images : ImagesLast) (s : Se
 
   -- ---- a machine that is followed over locations, once `main` is entered
 
-  module _ {S : Type 0} (A : Machine S ℕ Call Ending) (a : S) (cost : ℕ) (lasts : Lasts A)
+  module _ {S : Type 0} (A : Machine S ℕ Call Ending) (a : S) (cost : ℕ) (lasts : Lasts A) (right : A.wrong a ≡ false)
       (follows : Follows A (λ _. cost) (fitting_machine s c) (tokens_at s c) a (located_step s c (located_start s c input)))
       (soon : begins.most + 32 * tokens_at s c (located_start s c input) ≤ 32 * cost) where
-    -- before the first step nothing is passed
-    right_at_first : A.wrong a ≡ false → (fitting_machine s c).wrong (located_step s c (located_start s c input)) ≡ false
-    right_at_first right =
-        let path = follows.leads 0 right in by path.steps path.through path.arrives
-      where
-        by : (n : ℕ) → ((k : ℕ) → k < n → (i : ℕ) × (i < 0) × Passes A (fitting_machine s c) (after A i a) (after (fitting_machine s c) k (located_step s c (located_start s c input)))) →
-            Level A (fitting_machine s c) a (after (fitting_machine s c) n (located_step s c (located_start s c input))) →
-            (fitting_machine s c).wrong (located_step s c (located_start s c input)) ≡ false
-        by zero through level = sym level.wrong ∙ right
-        by (suc n) through level = let none = through 0 (omega arith) in absurd (omega (arith, none.1))
+    -- it begins level with the located machine behind the first step of that, and has shown nothing
+    level_first : Level A (fitting_machine s c) a (located_step s c (located_start s c input))
+    level_first =
+        subst (λ (n : ℕ). Level A (fitting_machine s c) a (after (fitting_machine s c) n (located_step s c (located_start s c input)))) follows.begins
+        (follows.level 0 (right_at_start A a right))
 
-    precedes : A.wrong a ≡ false → (u : Run) → Passes (fitting_machine s c) (image_machine l) (located_start s c input) u → Precedes A (image_machine l) a u
-    precedes right u p = record {
+    shows_nothing : A.seen a ≡ nothing
+    shows_nothing = level_first.seen ∙ first_shows s c l f whole.code.around input is_bytes begins
+
+    right_at_first : (fitting_machine s c).wrong (located_step s c (located_start s c input)) ≡ false
+    right_at_first = sym level_first.wrong ∙ right
+
+    precedes : (u : Run) → Passes (fitting_machine s c) (image_machine l) (located_start s c input) u → Precedes A (image_machine l) a u
+    precedes u p = record {
+      shown = subst (λ (z : Seen ℕ). IsWithin z ((image_machine l).seen u)) (sym shows_nothing) (nothing_within ((image_machine l).seen u));
       seen = within_trans (subst (λ (z : Seen ℕ). IsWithin ((image_machine l).seen ((image_machine l).step u)) z) (first_shows s c l f whole.code.around input is_bytes begins) p.seen)
           (nothing_within (A.seen a));
       asks = by ((image_machine l).asks u) refl;
-      right = p.right (right_at_first right);
+      right = p.right right_at_first;
     }
       where
         by : (o : Option (Event Call Ending)) → (image_machine l).asks u ≡ o → o ≡ None
         by None is = refl
         by (Some event) is = let asked = (p.asks event is).0 in let none = first_asks s c l f whole.code.around input is_bytes begins in absurd (cc)
 
-    begun_by : A.wrong a ≡ false →
-        Leads (image_machine l) (λ _. 1) (Precedes A (image_machine l) a) (Follows A (λ _. 32 * cost) (image_machine l) (λ _. 1) a) 0
+    begun_by : Leads (image_machine l) (λ _. 1) (Precedes A (image_machine l) a) (Follows A (λ _. 32 * cost) (image_machine l) (λ _. 1) a) 0
         (begins.most + 32 * tokens_at s c (located_start s c input)) (first_run l input)
-    begun_by right =
+    begun_by =
         weaker
         (joined {l = 0} {m = begins.most} {n = 1} {o = most_for_step s c (located_start s c input)} {least = 0} {most = begins.most + 32 * tokens_at s c (located_start s c input)}
-        whole_begins (λ u is_shown. (images_simulate_yields lead line s c l f whole (first_memory l.image)).leads (located_start s c input) u is_shown (right_at_first right)) (omega arith) (omega arith))
-        (λ u p. precedes right u p)
+        whole_begins (λ u is_shown. each_leads (images_simulate_yields lead line s c l f whole (first_memory l.image)) (located_start s c input) u is_shown right_at_first) (omega arith) (omega arith))
+        (λ u p. precedes u p)
         (λ u is_shown.
-        follows_simulated lasts (follows_scaled {a' = λ _. 32 * cost} {b' = most_for_step s c} 32 (λ _. omega arith) (λ _. omega arith) follows)
-        (images_simulate_yields lead line s c l f whole (first_memory l.image)) is_shown)
+        lazily_trans (follows_scaled {a' = λ _. 32 * cost} {b' = most_for_step s c} 32 (λ _. omega arith) (λ _. omega arith) follows)
+        (follows_of_simulates (images_simulate_yields lead line s c l f whole (first_memory l.image)) is_shown))
         (omega arith) (λ n le. le)
 
     positive : 1 ≤ 32 * cost
     positive = let path = whole_begins in omega (arith, path.arrives.holds.tokens, soon)
 
-    agrees : A.wrong a ≡ false → AgreesOnceBegun A (image_machine l) (32 * cost) a (first_run l input)
-    agrees right = agrees_once_begun lasts (images l) positive soon (begun_by right)
-
-    -- the image agrees with it, at 32 instructions for each token that a step of the machine costs over locations
-    pub whole_agrees : AgreesOnceBegun A (image_machine l) (32 * cost) a (first_run l input)
-    whole_agrees = record {
-      down = λ m right. (agrees (right_until A lasts 0 m a (omega arith) right)).down m right;
-      up = λ n right. (agrees (right_until A lasts 0 (32 * cost * (n + 1)) a (omega arith) right)).up n right;
-      right = λ n right. (agrees (right_until A lasts 0 (32 * cost * (n + 1)) a (omega arith) right)).right n right;
-    }
+    -- the image agrees with it, at 32 instructions for each token that a step of the machine costs over locations, behind those by which it begins
+    pub whole_agrees : Agrees A (image_machine l) (begins.most + 32 * tokens_at s c (located_start s c input)) (32 * cost) a (first_run l input)
+    whole_agrees =
+        agrees_once_begun A (image_machine l) (begins.most + 32 * tokens_at s c (located_start s c input)) (32 * cost) 1 a (first_run l input) lasts (images l) positive soon right begun_by
 
     -- Where it waits for the client, the line of the yield is in the image's log by the next step's cost, if the start leaves an instruction.
     pub lines_are_there : begins.most + 32 * tokens_at s c (located_start s c input) + 1 ≤ 32 * cost → (m : ℕ) → A.wrong (after A m a) ≡ false → (call : Call) (walk : List Activation) →
         A.asks (after A m a) ≡ Some (Client call) → call.walk ≡ Some walk →
         IsPrefix ((A.seen (after A m a)).log ++ yield_line call.values) (after (image_machine l) (32 * cost * (m + 1)) (first_run l input)).log
-    lines_are_there spare m right call walk asks is_walk =
-        let there = stands_soon lasts (images l) positive soon (begun_by (right_until A lasts 0 m a (omega arith) right)) m right (Client call) (ap but_input asks) in
+    lines_are_there spare m fine call walk asks is_walk =
+        let there = (whole_agrees.down m fine).stands (Client call) (ap but_input asks) in
         let bound : there.0 ≤ 32 * cost * (m + 1) - 1 = omega (arith, there.1, spare) in
         let least : 1 ≤ 32 * cost * (m + 1) = omega (arith, positive) in
         let last : 32 * cost * (m + 1) - 1 + 1 ≡ 32 * cost * (m + 1) = omega (arith, least) in
@@ -139,11 +138,14 @@ module _ (lead : SwitchesLead) (line : LineUnseen) (images : ImagesLast) (s : Se
 
 pub images_agree_with_clients : SwitchesLead → LineUnseen → ImagesLast → StatesAreSound → MachineLasts → ImagesAgreeWithClients
 images_agree_with_clients lead line images are_sound lasts s set c l f code begins input is_bytes cost follows soon =
-    whole_agrees lead line images s c l f code input is_bytes begins (machine_of (todo_control s.program) s) (start_of s input) cost (lasts s)
-    (fits_follow are_sound lasts s set input is_bytes (λ _. cost) (located_machine s c) (tokens_at s c) (located_step s c (located_start s c input)) follows) soon
+    agrees_later soon
+    (whole_agrees lead line images s c l f code input is_bytes begins (machine_of (todo_control s.program) s) (start_of s input) cost (lasts s)
+    (starts_right (todo_control s.program) s input)
+    (fits_follow are_sound s set input is_bytes (λ _. cost) (located_machine s c) (tokens_at s c) (located_step s c (located_start s c input)) follows) soon)
 
 pub lines_are_logged : SwitchesLead → LineUnseen → ImagesLast → StatesAreSound → MachineLasts → LinesAreThere
 lines_are_logged lead line images are_sound lasts s set c l f code begins input is_bytes cost follows spare m right call walk asks is_walk =
     lines_are_there lead line images s c l f code input is_bytes begins (machine_of (todo_control s.program) s) (start_of s input) cost (lasts s)
-    (fits_follow are_sound lasts s set input is_bytes (λ _. cost) (located_machine s c) (tokens_at s c) (located_step s c (located_start s c input)) follows) (omega (arith, spare)) spare m
+    (starts_right (todo_control s.program) s input)
+    (fits_follow are_sound s set input is_bytes (λ _. cost) (located_machine s c) (tokens_at s c) (located_step s c (located_start s c input)) follows) (omega (arith, spare)) spare m
     right call walk asks is_walk

@@ -1,6 +1,7 @@
 -- The image follows the located machine with its yields, wherever what an event shows fits its widths.
 use Rattle.std.specs.Prelude.{◌≡◌, ℕ, ◌+◌, ◌*◌, ◌≤◌, ◌++◌, false, List, Some}
 use Rattle.std.specs.List.{All}
+use Rattle.cmm_simulation.specs.Agreement.{Agrees}
 use Rattle.cmm_simulation.specs.Following.{Follows}
 use Rattle.cmm_simulation.specs.Machine.{Machine, after}
 use Rattle.cmm_simulation.specs.Seen.{Client, IsPrefix}
@@ -19,7 +20,6 @@ use Rattle.cmm_image_machine.specs.Machine.{Launch, Run, first_run}
 use Rattle.cmm_image_machine.specs.Observed.{image_machine}
 use Rattle.cmm_located.specs.Compiled.{Compiled, Located}
 use Rattle.cmm_located.specs.LocatedMachine.{located_machine, located_start, located_step, tokens_at}
-use Rattle.cmm_simulation.specs.OnceBegun.{AgreesOnceBegun}
 use Rattle.cmm_emit_laws.specs.Finished.{Finished}
 use Rattle.cmm_emit_laws.specs.Laws.{most_for_step}
 use Rattle.cmm_emit_laws.specs.Serving.{IsRepresentedBy}
@@ -56,7 +56,7 @@ ImagesAgreeWithClients = (s : Setting) → IsSetUp s → (c : Compiled) (l : Lau
     (input : List ℕ) → All IsByte input →
     (cost : ℕ) → let machine = machine_of (todo_control s.program) s in let first = located_start s c input in
     Follows machine (λ _. cost) (located_machine s c) (tokens_at s c) (start s input) (located_step s c first) → begins.most + 32 * tokens_at s c first ≤ 32 * cost →
-    AgreesOnceBegun machine (image_machine l) (32 * cost) (start s input) (first_run l input)
+    Agrees machine (image_machine l) (32 * cost) (32 * cost) (start s input) (first_run l input)
 
 -- And where the C-- machine waits for the client after m steps, the image has the line of the yield in its log once m + 1 steps are paid for, if the start
 -- leaves one instruction.

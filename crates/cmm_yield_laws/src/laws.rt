@@ -14,7 +14,6 @@ pub fn fitting_runs_follow()
     ensures { FittingRunsFollow }
 {
     cmm_machine_laws::values::every_state_is_sound();
-    cmm_machine_laws::runs::what_is_seen_lasts();
 }
 
 /// Where the located machine follows the C-- machine, the image agrees with the C-- machine, with all that its client does; and where that machine waits, the
