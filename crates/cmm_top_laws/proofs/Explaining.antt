@@ -1,5 +1,5 @@
 -- The C-- machine explains a run of an image that agrees with it.
-use Rattle.std.proofs.Common.{◌≡◌, ◌≢◌, ◌⊎◌, ℕ, ◌+◌, ◌*◌, ◌<◌, ◌≤◌, ◌++◌, inl, inr, true, false, List, Option, Some, None, IfSome, refl, ap, sym, ◌∙◌, subst, arith, mul-le-mul_left}
+use Rattle.std.proofs.Common.{◌≡◌, ◌≢◌, ◌⊎◌, ℕ, suc, ◌+◌, ◌*◌, ◌<◌, ◌≤◌, ◌++◌, inl, inr, true, false, List, Option, Some, None, IfSome, refl, ap, sym, ◌∙◌, subst, arith, mul-le-mul_left}
 use Rattle.rv_table.specs.declared.request.Request.TheVariants as request
 use Rattle.rv_table.specs.declared.trap.Trap.{Trap}
 use Rattle.rv_table.specs.Machine as rv
@@ -8,7 +8,7 @@ use Rattle.cmm_simulation.specs.Agreement.{Agrees, GoesWrong, IsMatched, StandsA
 use Rattle.cmm_simulation.specs.Machine.{Stands, after}
 use Rattle.cmm_simulation.specs.Seen.{Event, Input, IsWithin, End, Seen}
 use Rattle.cmm_simulation.proofs.Prefixes.{within_trans}
-use Rattle.cmm_simulation.proofs.Runs.{grows_until, over_until}
+use Rattle.cmm_simulation.proofs.Runs.{grows_until, kept_until, over_until}
 use Rattle.cmm_script.specs.Walk.{Activation}
 use Rattle.cmm_program.specs.Acts.{Act}
 use Rattle.cmm_program.specs.Acts as act
@@ -18,6 +18,7 @@ use Rattle.cmm_program.specs.State.{Setting, Store}
 use Rattle.cmm_program.specs.Control.{State, next_act}
 use Rattle.cmm_program.specs.Todo.{Todo, todo_control}
 use Rattle.cmm_program.specs.Walks.{walk_of}
+use Rattle.cmm_machine_laws.proofs.Shared.{machine_lasts}
 use Rattle.cmm_machine_laws.specs.Observed as machine
 use Rattle.cmm_machine_laws.specs.Observed.{Call, Ending, ending_of}
 use Rattle.cmm_image_machine.specs.Machine as image
@@ -32,7 +33,7 @@ use Rattle.cmm_run.specs.Outside.{Outside as Streams}
 use Rattle.cmm_run.specs.Runs as runs
 use Rattle.cmm_run.specs.Runs.{Comes, Ends, IsBeforeInput, Runs, answer_of}
 use Rattle.cmm_top_laws.specs.Explained.{Errs, Gave, IsExplained, Shows, ShowsAll, StandsThere, is_fault, machine_in, state_at}
-use Rattle.cmm_top_laws.specs.Laws.{RunsAreExplained}
+use Rattle.cmm_top_laws.specs.Laws.{ErrorsLast, RunsAreExplained}
 
 -- ---- how runs end
 
@@ -356,3 +357,8 @@ module _ (s : Setting) (l : Launch) (factor n : ℕ) (before after' : Streams) (
 
 pub runs_are_explained : RunsAreExplained
 runs_are_explained s l factor n before after' answer stood ran agrees = explained s l factor n before after' ran.input ran.told agrees answer stood ran.stopped ran.comes
+
+pub errors_last : ErrorsLast
+errors_last s input most shown errs =
+    kept_until (machine_in s) (λ at. (machine_in s).wrong at ≡ true) (machine_lasts (todo_control s.program) s).wrong (suc errs.steps) most (start s input) (omega (arith, errs.soon))
+    errs.error

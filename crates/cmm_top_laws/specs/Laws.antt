@@ -1,5 +1,5 @@
 -- What a user relies on: calls do what the C-- machine does.
-use Rattle.std.specs.Prelude.{◌≡◌, ℕ, IfSome, List, Option, Some, inl, inr}
+use Rattle.std.specs.Prelude.{◌≡◌, ℕ, true, IfSome, List, Option, Some, inl, inr}
 use Rattle.std.specs.List.{All}
 use Rattle.rv_table.specs.Machine as rv
 use Rattle.cmm_outside.specs.Storage.{Contents}
@@ -15,6 +15,7 @@ use Rattle.cmm_image_machine.specs.Machine.{Launch, first_run, region_of, launch
 use Rattle.cmm_image_machine.specs.Observed.{image_machine}
 use Rattle.cmm_image_machine.specs.Walks.{chain_walk}
 use Rattle.cmm_simulation.specs.Agreement.{Agrees}
+use Rattle.cmm_simulation.specs.Seen.{Seen}
 use Rattle.cmm_compile.specs.Agreement.{setting_of}
 use Rattle.cmm_run.specs.declared.outcome.Outcome.{Outcome}
 use Rattle.cmm_run.specs.declared.outcome.Outcome.TheVariants.{Stopped}
@@ -31,7 +32,7 @@ use Rattle.cmm_work.specs.Walking.{HasWalked}
 use Rattle.cmm_top.specs.Words.{Task, task_of}
 use Rattle.cmm_work.specs.Work.{Work}
 use Rattle.cmm_top_laws.specs.Calls.{CanRun, HasStackSize, IsMachineOf, IsMachineOfBuilt, IsMachineOfGenerated}
-use Rattle.cmm_top_laws.specs.Explained.{IsExplained, machine_in, state_at}
+use Rattle.cmm_top_laws.specs.Explained.{Errs, IsExplained, machine_in, state_at}
 use Rattle.cmm_top_laws.specs.Walked.{WalksSo}
 
 -- the C-- machine explains a run of an image that agrees with it
@@ -39,6 +40,10 @@ abbrev pub RunsAreExplained : Type 0
 RunsAreExplained = (s : Setting) (l : Launch) (factor n : ℕ) (before after : Streams) (answer : Outcome) (stood : rv.State) (runs : Runs l n before after answer stood) →
     Agrees (machine_in s) (image_machine l) factor factor (start s runs.input) (first_run l runs.input) →
     IsExplained s factor n before after answer (chain_walk l.image (region_of l) stood)
+
+-- a machine that errs within so many steps is wrong after them; so where it is not wrong then, it stands where the call ended
+abbrev pub ErrorsLast : Type 0
+ErrorsLast = (s : Setting) (input : List ℕ) (most : ℕ) (shown : Seen ℕ) → Errs s input most shown → (machine_in s).wrong (state_at s input most) ≡ true
 
 -- where `exec` has run what it built
 abbrev pub ExecIsTheMachine : Type 0

@@ -1,9 +1,14 @@
 //! What holds of the calls of the program, as contracts.
-ghost use Rattle.cmm_top_laws.specs.Laws.{BuiltBytesRunSo, BuiltFilesRunSo, ExecIsTheMachine, GenIsTheMachine, RunsAreExplained, SavedRunsWalkSo, SnapshotsWalkSo, WordsGiveStackSizes};
+ghost use Rattle.cmm_top_laws.specs.Laws.{BuiltBytesRunSo, BuiltFilesRunSo, ErrorsLast, ExecIsTheMachine, GenIsTheMachine, RunsAreExplained, SavedRunsWalkSo, SnapshotsWalkSo, WordsGiveStackSizes};
 
 /// What a run of an image writes, takes and answers is what the C-- machine does, where the two agree.
 pub fn runs_are_explained()
     ensures { RunsAreExplained }
+{}
+
+/// A machine that errs within so many steps is wrong after them, so where it is not, it stands where the call ended.
+pub fn errors_last()
+    ensures { ErrorsLast }
 {}
 
 /// What `exec` writes, takes and answers is what the C-- machine does on the program that the units mean, with the client's script.
