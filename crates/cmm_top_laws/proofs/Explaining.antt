@@ -272,32 +272,19 @@ module _ (s : Setting) (l : Launch) (factor n : ℕ) (before after' : Streams) (
       }
 
       -- and how one stands whose input failed, or its output
-      input_stands : (walk : Option (List Activation)) → IsBeforeInput l (run_at k) → StandsThere s input late (seen_of (run_at k)) outcome.InputFault walk
-      input_stands walk here = record {
+      fault_stands : (answer : Outcome) (walk : Option (List Activation)) → is_fault answer ≡ true → (answer ≡ outcome.InputFault → IsBeforeInput l (run_at k)) →
+          StandsThere s input late (seen_of (run_at k)) answer walk
+      fault_stands answer walk fault before = record {
         steps = at.steps;
         soon = soon_enough;
         right = at.right;
         least = stands.least;
         within = stands.most;
-        comes = λ how is. absurd (fault_ends_nothing outcome.InputFault how refl is);
-        takes = λ fault. takes_there here;
-        leaves = λ is. absurd (cc is);
-        no_trap = λ trap is. absurd (cc is);
-        no_break = λ torn is. absurd (cc is);
-      }
-
-      output_stands : (walk : Option (List Activation)) → StandsThere s input late (seen_of (run_at k)) outcome.OutputFault walk
-      output_stands walk = record {
-        steps = at.steps;
-        soon = soon_enough;
-        right = at.right;
-        least = stands.least;
-        within = stands.most;
-        comes = λ how is. absurd (fault_ends_nothing outcome.OutputFault how refl is);
-        takes = λ is. absurd (cc is);
-        leaves = λ is. absurd (cc is);
-        no_trap = λ trap is. absurd (cc is);
-        no_break = λ torn is. absurd (cc is);
+        comes = λ how is. absurd (fault_ends_nothing answer how fault is);
+        takes = λ is. takes_there (before is);
+        leaves = λ is. absurd (cc (sym fault ∙ ap is_fault is));
+        no_trap = λ trap is. absurd (cc (sym fault ∙ ap is_fault is));
+        no_break = λ torn is. absurd (cc (sym fault ∙ ap is_fault is));
       }
 
   -- ---- all that is said of a call
@@ -332,7 +319,7 @@ module _ (s : Setting) (l : Launch) (factor n : ℕ) (before after' : Streams) (
     soon = λ is _ _ _. absurd (cc is);
     ended = λ is _ _ _ _. absurd (cc is);
     stands = elim (agrees.up comes.0) [
-      | inl matched ↦ inl (input_stands comes.0 (omega (arith, comes.1)) matched (chain_walk l.image (region_of l) stood) comes.2)
+      | inl matched ↦ inl (fault_stands comes.0 (omega (arith, comes.1)) matched outcome.InputFault (chain_walk l.image (region_of l) stood) refl (λ is. comes.2))
       | inr wrong ↦ inr (erred comes.0 (omega (arith, comes.1)) wrong)
     ];
   }
@@ -344,7 +331,7 @@ module _ (s : Setting) (l : Launch) (factor n : ℕ) (before after' : Streams) (
     soon = λ is _ _ _. absurd (cc is);
     ended = λ is _ _ _ _. absurd (cc is);
     stands = elim (agrees.up n) [
-      | inl matched ↦ inl (output_stands n (omega arith) matched (chain_walk l.image (region_of l) stood))
+      | inl matched ↦ inl (fault_stands n (omega arith) matched outcome.OutputFault (chain_walk l.image (region_of l) stood) refl (λ is. absurd (cc is)))
       | inr wrong ↦ inr (erred n (omega arith) wrong)
     ];
   }
