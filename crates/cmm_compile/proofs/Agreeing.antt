@@ -233,9 +233,9 @@ module _ (promises : Promises) (p : Program) (graphs : List Graph) (found : List
         omega (arith, few, first, one, same_longest)
 
     agree : (input : List ℕ) → All IsByte input →
-        Agrees (machine_of (todo_control p) s) (image_machine l) (step_factor p) (step_factor p) (start s input) (first_run l input)
+        Agrees (machine_of (todo_control p) s) (image_machine l) (step_factor p) (step_factor p) 1 (start s input) (first_run l input)
     agree input are =
-        subst (λ (n : ℕ). Agrees (machine_of (todo_control p) s) (image_machine l) n n (start s input) (first_run l input)) factor
+        subst (λ (n : ℕ). Agrees (machine_of (todo_control p) s) (image_machine l) n n 1 (start s input) (first_run l input)) factor
         (promises.clients s set_up c l runs.finished whole runs.begins input are cost (promises.follows s graphs found input set_up are over)
         (let enough = soon input in omega (arith, enough)))
 

@@ -33,13 +33,13 @@ abbrev pub setting_of : Program → ImageParts → Script → ℕ → Setting
 setting_of p i script stack = record { program = p; placement = placement_of i; stack_base = stack_base; stack_size = stack; script = script }
 
 -- For every script, stack and input the image does in K * (m + 1) instructions what the machine does in m steps, unless that has gone wrong, where K is the step factor of the
--- program: what is written, what is asked for and how it ends. And wherever the image stands after n instructions, the machine stands so after fewer than K * (n + 1) steps, or it
+-- program: what is written, what is asked for and how it ends. And wherever the image stands after n instructions, the machine stands so after n steps or fewer, or it
 -- commits an unchecked error with a step from where the image was level with it. What a yield asks for are its values and the walk that the client is shown, and a run that
 -- the client stops ends with the walk that it leaves. The code from which `main` is called counts among the first instructions.
 abbrev pub RunsAgree : Program → ImageParts → Type 0
 RunsAgree p i = (script : Script) (stack : ℕ) (input : List ℕ) → IsStackSize stack → All IsByte input →
     let s = setting_of p i script stack in let l = launch_of i script stack in
-    Agrees (machine_of (todo_control p) s) (image_machine l) (step_factor p) (step_factor p) (start s input) (first_run l input)
+    Agrees (machine_of (todo_control p) s) (image_machine l) (step_factor p) (step_factor p) 1 (start s input) (first_run l input)
 
 -- Where the machine waits for the client after m steps, the image has the line of this yield in its log by K * (m + 1) instructions too.
 abbrev pub LinesCome : Program → ImageParts → Type 0

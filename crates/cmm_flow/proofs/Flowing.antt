@@ -64,7 +64,7 @@ flow_follows sound fit s graphs input set bytes flows =
 pub flow_agrees : StatesAreSound → ExpressionsFit → FlowAgrees
 unfolding at_costs
 flow_agrees sound fit s graphs input set bytes flows =
-    agrees_lazily (machine_lasts (todo_control s.program) s) (machine_lasts (graph_control graphs) s) (longest_positive s.program.procs)
+    agrees_lazily (machine_lasts (todo_control s.program) s) (machine_lasts (graph_control graphs) s)
     (starts_right (todo_control s.program) s input)
     (follows_of_simulates (simulates_for sound fit s graphs (λ _. 1) set flows (by_steps s graphs))
     (starts_related sound fit (at_costs s graphs (λ _. 1) 0 (by_steps s graphs)) set flows input bytes))

@@ -49,7 +49,7 @@ FlowFollows = (s : Setting) (graphs : List Graph) (input : List ℕ) → IsSetUp
 -- and agrees with it with the longest procedure as the factor
 abbrev pub FlowAgrees : Type 0
 FlowAgrees = (s : Setting) (graphs : List Graph) (input : List ℕ) → IsSetUp s → All IsByte input → AreFlows s graphs →
-    Agrees (machine_of (todo_control s.program) s) (machine_of (graph_control graphs) s) 0 (longest s.program) (start s input)
+    Agrees (machine_of (todo_control s.program) s) (machine_of (graph_control graphs) s) 0 (longest s.program) 1 (start s input)
     (graph_start graphs s input)
 
 -- the youngest activation stands at a node that leads on in it

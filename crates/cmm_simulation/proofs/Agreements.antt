@@ -27,7 +27,7 @@ module _ {S T L C E : Type 0} {A : Machine S L C E} {B : Machine T L C E} {s : S
   level_stands : {e : Event C E} → Level A B s t → but_input (A.asks s) ≡ Some e → B.asks t ≡ Some e
   level_stands {e = e} level is = same_event e (A.asks s) (B.asks t) level.asks is
 
-module _ {S T L C E : Type 0} (A : Machine S L C E) (B : Machine T L C E) (first factor slack : ℕ) (s : S) (t : T) (lasts : Lasts A) (lasts' : Lasts B) (few : slack ≤ factor)
+module _ {S T L C E : Type 0} (A : Machine S L C E) (B : Machine T L C E) (first factor slack : ℕ) (s : S) (t : T) (lasts : Lasts A) (lasts' : Lasts B)
     (early : first ≤ factor) (start : A.wrong s ≡ false) (begins : Leads B (λ _. 1) (Precedes A B s) (FollowsLazily A (λ _. factor) B (λ _. 1) slack s) 0 first t) where
   -- B once it has begun
   abbrev begun : T
@@ -90,17 +90,15 @@ module _ {S T L C E : Type 0} (A : Machine S L C E) (B : Machine T L C E) (first
   found k = find k (slack * suc k) 0 (omega arith) (right_at_start A s start) (omega (arith, follows.begins))
 
   -- behind where it has begun
-  matched : (k n : ℕ) → begins.steps + k ≡ n → IsMatched A B (factor * (n + 1)) s (after B n t) ⊎ GoesWrong A B factor n s t
+  matched : (k n : ℕ) → begins.steps + k ≡ n → IsMatched A B (slack * (n + 1)) s (after B n t) ⊎ GoesWrong A B slack n s t
   matched k n is = by at.next
     where
       at : Found k
       at = found k
 
-      bound : (taken : ℕ) → at.steps < slack * suc taken → at.steps < factor * (begins.steps + taken + 1)
+      bound : (taken : ℕ) → at.steps < slack * suc taken → at.steps < slack * (begins.steps + taken + 1)
       bound taken less =
-          let one : suc taken * slack ≤ suc taken * factor = mul-le-mul_left (suc taken) few in
-          let more : factor * suc taken ≤ factor * (begins.steps + taken + 1) = mul-le-mul_left factor (omega arith) in
-          omega (arith, less, one, more, mul_comm slack (suc taken), mul_comm factor (suc taken))
+          let more : slack * suc taken ≤ slack * (begins.steps + taken + 1) = mul-le-mul_left slack (omega arith) in omega (arith, less, more)
 
       here : after B n t ≡ after B k begun
       here = sym (ap (λ (i : ℕ). after B i t) is) ∙ behind k
@@ -116,11 +114,11 @@ module _ {S T L C E : Type 0} (A : Machine S L C E) (B : Machine T L C E) (first
           }
 
       by : ((A.wrong (after A (suc at.steps) s) ≡ false) × (k < follows.done (suc at.steps))) ⊎ (A.wrong (after A (suc at.steps) s) ≡ true) →
-          IsMatched A B (factor * (n + 1)) s (after B n t) ⊎ GoesWrong A B factor n s t
+          IsMatched A B (slack * (n + 1)) s (after B n t) ⊎ GoesWrong A B slack n s t
       by (inl on) =
           inl record {
             steps = at.steps;
-            soon = subst (λ (i : ℕ). at.steps < factor * (i + 1)) is (bound k (soon at.steps k at.right at.low));
+            soon = subst (λ (i : ℕ). at.steps < slack * (i + 1)) is (bound k (soon at.steps k at.right at.low));
             right = at.right at.steps (omega arith);
             stands = subst (λ (u : T). StandsAs A B (after A at.steps s) u) (sym here) (stands on.0 on.1);
           }
@@ -135,19 +133,19 @@ module _ {S T L C E : Type 0} (A : Machine S L C E) (B : Machine T L C E) (first
             error = wrong;
           }
 
-  positive : 1 ≤ factor
+  positive : 1 ≤ slack
   positive =
       let same : slack * suc (follows.done 0) ≡ slack * 1 = ap (λ (d : ℕ). slack * suc d) follows.begins in
-      omega (arith, follows.enough 0 (right_at_start A s start), same, few)
+      omega (arith, follows.enough 0 (right_at_start A s start), same)
 
   -- before it
-  preceded : (n : ℕ) → n < begins.steps → IsMatched A B (factor * (n + 1)) s (after B n t)
+  preceded : (n : ℕ) → n < begins.steps → IsMatched A B (slack * (n + 1)) s (after B n t)
   preceded n less =
       let before = begins.through n less in
-      let one : suc n * 1 ≤ suc n * factor = mul-le-mul_left (suc n) positive in
+      let one : suc n * 1 ≤ suc n * slack = mul-le-mul_left (suc n) positive in
       record {
         steps = 0;
-        soon = omega (arith, one, mul_comm factor (n + 1));
+        soon = omega (arith, one, mul_comm slack (n + 1));
         right = start;
         stands = record {
           least = before.shown;
@@ -157,20 +155,20 @@ module _ {S T L C E : Type 0} (A : Machine S L C E) (B : Machine T L C E) (first
         };
       }
 
-  up : (n : ℕ) → IsMatched A B (factor * (n + 1)) s (after B n t) ⊎ GoesWrong A B factor n s t
+  up : (n : ℕ) → IsMatched A B (slack * (n + 1)) s (after B n t) ⊎ GoesWrong A B slack n s t
   up n = by (nat_lt n begins.steps) refl
     where
-      by : (less : Bool) → nat_lt n begins.steps ≡ less → IsMatched A B (factor * (n + 1)) s (after B n t) ⊎ GoesWrong A B factor n s t
+      by : (less : Bool) → nat_lt n begins.steps ≡ less → IsMatched A B (slack * (n + 1)) s (after B n t) ⊎ GoesWrong A B slack n s t
       by true is = inl (preceded n (grind (arith, nat_tests, is)))
       by false is = let past : begins.steps ≤ n = grind (arith, nat_tests, is) in matched (n - begins.steps) n (omega (arith, past))
 
-  -- following at a constant cost a step against 1 a step, behind some steps first, is agreement with that factor, where no more steps than the factor are done by one
-  pub agrees_once_begun : Agrees A B first factor s t
+  -- following at a constant cost a step against 1 a step, behind some steps first, is agreement with that factor, and with its slack
+  pub agrees_once_begun : Agrees A B first factor slack s t
   agrees_once_begun = record { down = does; up = up }
 
-module _ {S T L C E : Type 0} {A : Machine S L C E} {B : Machine T L C E} {first later factor : ℕ} {s : S} {t : T} where
+module _ {S T L C E : Type 0} {A : Machine S L C E} {B : Machine T L C E} {first later factor slack : ℕ} {s : S} {t : T} where
   -- more first steps may be allowed for
-  pub agrees_later : first ≤ later → Agrees A B first factor s t → Agrees A B later factor s t
+  pub agrees_later : first ≤ later → Agrees A B first factor slack s t → Agrees A B later factor slack s t
   agrees_later le agrees = record {
     down = λ m right. let does = agrees.down m right in
         record { seen = does.seen; ends = does.ends; stands = λ event is. let at = does.stands event is in (at.0, omega (arith, at.1, le), at.2) };
@@ -179,5 +177,5 @@ module _ {S T L C E : Type 0} {A : Machine S L C E} {B : Machine T L C E} {first
 
 module _ {S T L C E : Type 0} {A : Machine S L C E} {B : Machine T L C E} {factor slack : ℕ} {s : S} {t : T} (lasts : Lasts A) (lasts' : Lasts B) where
   -- and so is following from the start
-  pub agrees_lazily : slack ≤ factor → A.wrong s ≡ false → FollowsLazily A (λ _. factor) B (λ _. 1) slack s t → Agrees A B 0 factor s t
-  agrees_lazily few start follows = agrees_once_begun A B 0 factor slack s t lasts lasts' few (omega arith) start (nowhere follows)
+  pub agrees_lazily : A.wrong s ≡ false → FollowsLazily A (λ _. factor) B (λ _. 1) slack s t → Agrees A B 0 factor slack s t
+  agrees_lazily start follows = agrees_once_begun A B 0 factor slack s t lasts lasts' (omega arith) start (nowhere follows)

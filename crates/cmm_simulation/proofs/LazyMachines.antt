@@ -6,7 +6,6 @@ use Rattle.cmm_simulation.proofs.Composing.{lazily_trans, simulates_added}
 use Rattle.cmm_simulation.proofs.Followings.{follows_lazily, follows_of_simulates}
 use Rattle.cmm_simulation.proofs.Paths.{one_step}
 use Rattle.cmm_simulation.proofs.Prefixes.{within_refl}
-use Rattle.cmm_simulation.proofs.Scaling.{follows_scaled}
 use Rattle.cmm_simulation.proofs.SmallMachines.{reader_lasts, ticking_lasts, unchecked_simulates}
 use Rattle.cmm_simulation.specs.Examples.{AtOnce, FetchingIsPassedOver, InTwo, PhasesArePassedOver, RanksAddUp, ReaderAgreesWithTicks, ReaderFollowsTicks}
 use Rattle.cmm_simulation.specs.Observing.{Passes}
@@ -83,6 +82,4 @@ reader_follows_ticks input =
     lazily_trans (follows_lazily (fetching_is_passed_over true) 1 (omega arith) (refl, refl)) (follows_of_simulates unchecked_simulates refl)
 
 pub reader_agrees : ReaderAgreesWithTicks
-reader_agrees input =
-    agrees_lazily (ticking_lasts (reader true) (reader_lasts true)) (reader_lasts false) (omega arith) refl
-    (follows_scaled 1 (λ _. omega arith) (λ _. omega arith) (reader_follows_ticks input))
+reader_agrees input = agrees_lazily (ticking_lasts (reader true) (reader_lasts true)) (reader_lasts false) refl (reader_follows_ticks input)

@@ -56,7 +56,7 @@ ticks_follow input =
 -- so they agree
 pub ticks_agree : TicksAgree
 ticks_agree input =
-    agrees_lazily (reader_lasts true) (ticking_lasts (reader false) (reader_lasts false)) (omega arith) refl (ticks_follow input)
+    agrees_lazily (reader_lasts true) (ticking_lasts (reader false) (reader_lasts false)) refl (ticks_follow input)
 
 -- the reader ends once, as every machine that lasts
 pub ends_once : EndsOnce

@@ -30,17 +30,18 @@ module _ {S T Line Call Ending : Type 0} (A : Machine S Line Call Ending) (B : M
     pub stands : StandsAs (after A steps s) t
 
   -- A goes wrong with its next step, where B has come by n steps to be level with it
-  pub record GoesWrong (factor n : ℕ) (s : S) (t : T) : Type 0 where
+  pub record GoesWrong (slack n : ℕ) (s : S) (t : T) : Type 0 where
     pub steps : ℕ
     pub taken : ℕ
     pub early : taken ≤ n
-    pub soon : steps < factor * (taken + 1)
+    pub soon : steps < slack * (taken + 1)
     pub right : A.wrong (after A steps s) ≡ false
     pub level : Level A B (after A steps s) (after B taken t)
     pub error : A.wrong (after A (suc steps) s) ≡ true
 
   -- B, which may make so many steps first, does in factor * (m + 1) steps all that A does in m, unless A has gone wrong by then, but for the inputs at which it still
-  -- waits. And after each n steps B stands as A does after fewer than factor * (n + 1), or it has passed the place from which A goes wrong.
-  pub record Agrees (first factor : ℕ) (s : S) (t : T) : Type 0 where
+  -- waits. And after each n steps B stands as A does after fewer than slack * (n + 1), or it has passed the place from which A goes wrong. The slack is 1 where each step of A
+  -- takes a step of B at least: then A stands so after n steps or fewer.
+  pub record Agrees (first factor slack : ℕ) (s : S) (t : T) : Type 0 where
     pub down : (m : ℕ) → A.wrong (after A m s) ≡ false → Does (first + factor * m) (factor * (m + 1)) (after A m s) t
-    pub up : (n : ℕ) → IsMatched (factor * (n + 1)) s (after B n t) ⊎ GoesWrong factor n s t
+    pub up : (n : ℕ) → IsMatched (slack * (n + 1)) s (after B n t) ⊎ GoesWrong slack n s t

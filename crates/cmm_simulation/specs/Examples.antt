@@ -27,7 +27,7 @@ TicksFollow = (input : List ℕ) → Follows (reader true) (λ _. 2) (ticking (r
 
 -- and agrees with it with the factor 2
 abbrev pub TicksAgree : Type 0
-TicksAgree = (input : List ℕ) → Agrees (reader true) (ticking (reader false)) 0 2 (start input) (start input, false)
+TicksAgree = (input : List ℕ) → Agrees (reader true) (ticking (reader false)) 0 2 1 (start input) (start input, false)
 
 -- ---- lazily
 
@@ -55,9 +55,9 @@ RanksAddUp = (checks : Bool) → SimulatesLazily (phased (reader checks)) (λ _.
 abbrev pub ReaderFollowsTicks : Type 0
 ReaderFollowsTicks = (input : List ℕ) → FollowsLazily (ticking (reader true)) (λ _. 1) (reader false) (λ _. 1) 2 (start input, false) (start input)
 
--- and agrees with it, with the factor 2
+-- and agrees with it: where it stands after n steps, less than 2 * (n + 1) ticks have come
 abbrev pub ReaderAgreesWithTicks : Type 0
-ReaderAgreesWithTicks = (input : List ℕ) → Agrees (ticking (reader true)) (reader false) 0 2 (start input, false) (start input)
+ReaderAgreesWithTicks = (input : List ℕ) → Agrees (ticking (reader true)) (reader false) 0 1 2 (start input, false) (start input)
 
 -- ---- ends and events
 

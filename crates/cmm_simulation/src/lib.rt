@@ -6,7 +6,7 @@
 //! places in the run of the second where it has done the steps of the first, one after the other; it is level with the first there, at no more than the cost of those
 //! steps, and in between it shows nothing that the step which the first makes meanwhile does not. Simulations and what they give compose from layer to layer with
 //! their costs. At the top, a cost of K for each step of the first against 1 for each of the second is agreement with the factor K: down, what the first
-//! does in m steps the second does in K * (m + 1); up, wherever the second stands, the first stands so after fewer than K times as many steps and one, up to the
+//! does in m steps the second does in K * (m + 1); up, wherever the second stands after n steps, the first stands so after fewer than the slack times n + 1, which is n or fewer where no step is passed over, up to the
 //! very step with which it goes wrong. All of it stops asking there.
 //!
 //! The definitions in `specs/`, in the order in which they build on each other:

@@ -1,5 +1,5 @@
 -- The C-- machine explains a run of an image that agrees with it.
-use Rattle.std.proofs.Common.{◌≡◌, ◌≢◌, ◌⊎◌, ℕ, suc, ◌+◌, ◌*◌, ◌<◌, ◌≤◌, ◌++◌, inl, inr, true, false, List, Option, Some, None, IfSome, refl, ap, sym, ◌∙◌, subst, arith, mul-le-mul_left}
+use Rattle.std.proofs.Common.{◌≡◌, ◌≢◌, ◌⊎◌, ℕ, suc, ◌+◌, ◌*◌, ◌<◌, ◌≤◌, ◌++◌, inl, inr, true, false, List, Option, Some, None, IfSome, refl, ap, sym, ◌∙◌, subst, arith}
 use Rattle.rv_table.specs.declared.request.Request.TheVariants as request
 use Rattle.rv_table.specs.declared.trap.Trap.{Trap}
 use Rattle.rv_table.specs.Machine as rv
@@ -159,7 +159,7 @@ gave before after run input told left whole = record { rest = run.input; had = h
 -- ---- the law
 
 module _ (s : Setting) (l : Launch) (factor n : ℕ) (before after' : Streams) (input : List ℕ) (told : IfSome before.input (λ left. left ≡ input))
-    (agrees : Agrees (machine_in s) (image_machine l) factor factor (start s input) (first_run l input)) where
+    (agrees : Agrees (machine_in s) (image_machine l) factor factor 1 (start s input) (first_run l input)) where
   abbrev run_at : ℕ → Run
   run_at k = image_after l input k
 
@@ -200,21 +200,15 @@ module _ (s : Setting) (l : Launch) (factor n : ℕ) (before after' : Streams) (
 
   -- ---- where the image stands, the machine does
 
-  abbrev late : ℕ
-  late = factor * (n + 1)
-
-  in_time : (k : ℕ) → k ≤ n → factor * (k + 1) ≤ late
-  in_time k le = mul-le-mul_left factor (omega (arith, le))
-
   -- after k instructions
   module _ (k : ℕ) (le : k ≤ n) where
     abbrev Matched : Type 0
-    Matched = IsMatched (machine_in s) (image_machine l) (factor * (k + 1)) (start s input) (after (image_machine l) k (first_run l input))
+    Matched = IsMatched (machine_in s) (image_machine l) (1 * (k + 1)) (start s input) (after (image_machine l) k (first_run l input))
 
-    erred : GoesWrong (machine_in s) (image_machine l) factor k (start s input) (first_run l input) → Errs s input late (seen_of (run_at k))
+    erred : GoesWrong (machine_in s) (image_machine l) 1 k (start s input) (first_run l input) → Errs s input n (seen_of (run_at k))
     erred wrong = record {
       steps = wrong.steps;
-      soon = omega (arith, wrong.soon, in_time wrong.taken (omega (arith, wrong.early, le)));
+      soon = omega (arith, wrong.soon, wrong.early, le);
       right = wrong.right;
       error = wrong.error;
       before =
@@ -252,12 +246,12 @@ module _ (s : Setting) (l : Launch) (factor n : ℕ) (before after' : Streams) (
       takes_there : IsBeforeInput l (run_at k) → Stands (machine_in s) Input (seen_of (run_at k)) (state_at s input at.steps)
       takes_there here = stands.asks Input (ap (event_at l (run_at k).machine) here.running ∙ ap (asked_at l (run_at k).machine) here.asks)
 
-      soon_enough : at.steps < late
-      soon_enough = omega (arith, at.soon, in_time k le)
+      soon_enough : at.steps ≤ n
+      soon_enough = omega (arith, at.soon, le)
 
       -- how a call whose answer is no fault stands there
       ended_stands : (answer : Outcome) (stood : rv.State) → (answer ≡ outcome.Stopped → (run_at k).machine ≡ stood) → Ends before after' (run_at k) answer →
-          StandsThere s input late (seen_of (run_at k)) answer (chain_walk l.image (region_of l) stood)
+          StandsThere s input n (seen_of (run_at k)) answer (chain_walk l.image (region_of l) stood)
       ended_stands answer stood is_stood ends = record {
         steps = at.steps;
         soon = soon_enough;
@@ -273,7 +267,7 @@ module _ (s : Setting) (l : Launch) (factor n : ℕ) (before after' : Streams) (
 
       -- and how one stands whose input failed, or its output
       fault_stands : (answer : Outcome) (walk : Option (List Activation)) → is_fault answer ≡ true → (answer ≡ outcome.InputFault → IsBeforeInput l (run_at k)) →
-          StandsThere s input late (seen_of (run_at k)) answer walk
+          StandsThere s input n (seen_of (run_at k)) answer walk
       fault_stands answer walk fault before = record {
         steps = at.steps;
         soon = soon_enough;
@@ -347,5 +341,5 @@ runs_are_explained s l factor n before after' answer stood ran agrees = explaine
 
 pub errors_last : ErrorsLast
 errors_last s input most shown errs =
-    kept_until (machine_in s) (λ at. (machine_in s).wrong at ≡ true) (machine_lasts (todo_control s.program) s).wrong (suc errs.steps) most (start s input) (omega (arith, errs.soon))
+    kept_until (machine_in s) (λ at. (machine_in s).wrong at ≡ true) (machine_lasts (todo_control s.program) s).wrong (suc errs.steps) (suc most) (start s input) (omega (arith, errs.soon))
     errs.error

@@ -66,12 +66,12 @@ machine_in s = machine_of (todo_control s.program) s
 abbrev pub state_at : Setting → List ℕ → ℕ → State Todo
 state_at s input m = after (machine_in s) m (start s input)
 
--- After some steps, fewer than so many, the machine stands where the call ended: it has shown no more than was written and taken, and shows that with its next step; where the
+-- After some steps, at most so many, the machine stands where the call ended: it has shown no more than was written and taken, and shows that with its next step; where the
 -- call ended by the program, its client or the stack's limit, it has ended so, with just what was shown; where the input failed, it is about to take from it; where the client
 -- stopped the call, the walk is the machine's; and the call came to no trap and no break of the chain.
 pub record StandsThere (s : Setting) (input : List ℕ) (most : ℕ) (shown : Seen ℕ) (answer : Outcome) (walk : Option (List Activation)) : Type 0 where
   pub steps : ℕ
-  pub soon : steps < most
+  pub soon : steps ≤ most
   pub right : (machine_in s).wrong (state_at s input steps) ≡ false
   pub least : IsWithin ((machine_in s).seen (state_at s input steps)) shown
   pub within : IsWithin shown ((machine_in s).seen (state_at s input (suc steps)))
@@ -82,15 +82,15 @@ pub record StandsThere (s : Setting) (input : List ℕ) (most : ℕ) (shown : Se
   pub no_trap : (trap : Trap) → answer ≢ outcome.Trap trap
   pub no_break : (torn : Torn) → answer ≢ outcome.Torn torn
 
--- The machine commits an unchecked error within so many steps, and all that it has shown before that was written and taken.
+-- The machine commits an unchecked error with a step after so many at most, and all that it has shown before that was written and taken.
 pub record Errs (s : Setting) (input : List ℕ) (most : ℕ) (shown : Seen ℕ) : Type 0 where
   pub steps : ℕ
-  pub soon : steps < most
+  pub soon : steps ≤ most
   pub right : (machine_in s).wrong (state_at s input steps) ≡ false
   pub error : (machine_in s).wrong (state_at s input (suc steps)) ≡ true
   pub before : IsWithin ((machine_in s).seen (state_at s input steps)) shown
 
--- A call within n instructions, with this outcome and with this walk of the stack at its end, wrote and took what the C-- machine does, where a step of it takes at most `factor` instructions:
+-- A call within n instructions, with this outcome and with this walk of the stack at its end, wrote and took what the C-- machine does, where a step of it takes at least one instruction and at most `factor`:
 -- for the input that there is, where it tells its bytes, or for some input of which it gave the front that was taken.
 pub record IsExplained (s : Setting) (factor n : ℕ) (before after : Streams) (answer : Outcome) (walk : Option (List Activation)) : Type 0 where
   pub input : List ℕ
@@ -105,4 +105,4 @@ pub record IsExplained (s : Setting) (factor n : ℕ) (before after : Streams) (
   pub ended : is_fault answer ≡ false → (m : ℕ) → factor * (m + 1) ≤ n → (how : c.Outcome) → (state_at s input m).store.status ≡ c.Ended how →
       (answer ≡ answer_of (image.Ended how)) × (shown ≡ (machine_in s).seen (state_at s input m))
   -- and it stands where the call ended, or has erred on the way
-  pub stands : StandsThere s input (factor * (n + 1)) shown answer walk ⊎ Errs s input (factor * (n + 1)) shown
+  pub stands : StandsThere s input n shown answer walk ⊎ Errs s input n shown

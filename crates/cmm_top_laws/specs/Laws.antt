@@ -1,5 +1,5 @@
 -- What a user relies on: calls do what the C-- machine does.
-use Rattle.std.specs.Prelude.{◌≡◌, ℕ, true, IfSome, List, Option, Some, inl, inr}
+use Rattle.std.specs.Prelude.{◌≡◌, ℕ, suc, true, IfSome, List, Option, Some, inl, inr}
 use Rattle.std.specs.List.{All}
 use Rattle.rv_table.specs.Machine as rv
 use Rattle.cmm_outside.specs.Storage.{Contents}
@@ -38,12 +38,12 @@ use Rattle.cmm_top_laws.specs.Walked.{WalksSo}
 -- the C-- machine explains a run of an image that agrees with it
 abbrev pub RunsAreExplained : Type 0
 RunsAreExplained = (s : Setting) (l : Launch) (factor n : ℕ) (before after : Streams) (answer : Outcome) (stood : rv.State) (runs : Runs l n before after answer stood) →
-    Agrees (machine_in s) (image_machine l) factor factor (start s runs.input) (first_run l runs.input) →
+    Agrees (machine_in s) (image_machine l) factor factor 1 (start s runs.input) (first_run l runs.input) →
     IsExplained s factor n before after answer (chain_walk l.image (region_of l) stood)
 
--- a machine that errs within so many steps is wrong after them; so where it is not wrong then, it stands where the call ended
+-- a machine that errs with a step after so many at most is wrong one step behind them; so where it is not wrong then, it stands where the call ended
 abbrev pub ErrorsLast : Type 0
-ErrorsLast = (s : Setting) (input : List ℕ) (most : ℕ) (shown : Seen ℕ) → Errs s input most shown → (machine_in s).wrong (state_at s input most) ≡ true
+ErrorsLast = (s : Setting) (input : List ℕ) (most : ℕ) (shown : Seen ℕ) → Errs s input most shown → (machine_in s).wrong (state_at s input (suc most)) ≡ true
 
 -- where `exec` has run what it built
 abbrev pub ExecIsTheMachine : Type 0

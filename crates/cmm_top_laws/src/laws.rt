@@ -6,7 +6,7 @@ pub fn runs_are_explained()
     ensures { RunsAreExplained }
 {}
 
-/// A machine that errs within so many steps is wrong after them, so where it is not, it stands where the call ended.
+/// A machine that errs with a step after so many at most is wrong one step behind them, so where it is not, it stands where the call ended.
 pub fn errors_last()
     ensures { ErrorsLast }
 {}

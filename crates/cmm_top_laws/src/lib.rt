@@ -2,7 +2,7 @@
 //!
 //! `cmm_top` says what a call does by an image that agrees with the units, and by the run of that image. Here stands what follows of the two: for each call that has run
 //! a program, and for all m, what the C-- machine shows in the m steps for which there was time is a front of what the call wrote and took; where it has ended
-//! by then, that is all, and the outcome is its own. In the other direction the machine stands where the call ended, after a bounded count of steps: it has shown no more than the
+//! by then, that is all, and the outcome is its own. In the other direction the machine stands where the call ended, after no more steps than there were instructions: it has shown no more than the
 //! call wrote and took, and shows all of that with its next step, ended as the call ended, leaves the same walk where the client stopped the call, and the call came to no trap and no break of the
 //! chain; or it commits an unchecked error, and what it has shown before was written and taken.
 //!

@@ -118,9 +118,9 @@ module _ (lead : SwitchesLead) (line : LineUnseen) (images : ImagesLast) (s : Se
     positive = let path = whole_begins in omega (arith, path.arrives.holds.tokens, soon)
 
     -- the image agrees with it, at 32 instructions for each token that a step of the machine costs over locations, behind those by which it begins
-    pub whole_agrees : Agrees A (image_machine l) (begins.most + 32 * tokens_at s c (located_start s c input)) (32 * cost) a (first_run l input)
+    pub whole_agrees : Agrees A (image_machine l) (begins.most + 32 * tokens_at s c (located_start s c input)) (32 * cost) 1 a (first_run l input)
     whole_agrees =
-        agrees_once_begun A (image_machine l) (begins.most + 32 * tokens_at s c (located_start s c input)) (32 * cost) 1 a (first_run l input) lasts (images l) positive soon right begun_by
+        agrees_once_begun A (image_machine l) (begins.most + 32 * tokens_at s c (located_start s c input)) (32 * cost) 1 a (first_run l input) lasts (images l) soon right begun_by
 
     -- Where it waits for the client, the line of the yield is in the image's log by the next step's cost, if the start leaves an instruction.
     pub lines_are_there : begins.most + 32 * tokens_at s c (located_start s c input) + 1 ≤ 32 * cost → (m : ℕ) → A.wrong (after A m a) ≡ false → (call : Call) (walk : List Activation) →

@@ -56,7 +56,7 @@ ImagesAgreeWithClients = (s : Setting) → IsSetUp s → (c : Compiled) (l : Lau
     (input : List ℕ) → All IsByte input →
     (cost : ℕ) → let machine = machine_of (todo_control s.program) s in let first = located_start s c input in
     Follows machine (λ _. cost) (located_machine s c) (tokens_at s c) (start s input) (located_step s c first) → begins.most + 32 * tokens_at s c first ≤ 32 * cost →
-    Agrees machine (image_machine l) (32 * cost) (32 * cost) (start s input) (first_run l input)
+    Agrees machine (image_machine l) (32 * cost) (32 * cost) 1 (start s input) (first_run l input)
 
 -- And where the C-- machine waits for the client after m steps, the image has the line of the yield in its log once m + 1 steps are paid for, if the start
 -- leaves one instruction.
