@@ -8,6 +8,9 @@ use Rattle.cmm_abi.specs.Regions.{Region}
 use Rattle.cmm_outside.specs.Output.{Appends, AppendsFront}
 use Rattle.cmm_script.specs.Walk.{Activation, activation_texts, line, walk_text}
 use Rattle.cmm_program.specs.Asking.{Break}
+use Rattle.cmm_program.specs.State.{Setting}
+use Rattle.cmm_program.specs.Walks.{walk_of}
+use Rattle.cmm_compile.specs.Agreement.{setting_of}
 use Rattle.cmm_image.specs.declared.parts.ImageParts.{ImageParts}
 use Rattle.cmm_image.specs.Laws.{ImagesAreOne}
 use Rattle.cmm_image_machine.specs.Frames.{Element}
@@ -19,6 +22,7 @@ use Rattle.cmm_snapshot.specs.Snapshots.{SpellsSnapshot}
 use Rattle.cmm_walk.specs.Texts.{end_text}
 use Rattle.cmm_work.specs.Walking.{FailsToWalk, IsTorn, IsWhole, Stopped, chain_in}
 use Rattle.cmm_work.specs.Work.{Work}
+use Rattle.cmm_top_laws.specs.Explained.{Errs, StandsThere, state_at}
 use Rattle.cmm_top_laws.specs.Laws.{SavedRunsWalkSo, SnapshotsWalkSo}
 use Rattle.cmm_top_laws.specs.Walked.{WalksSo}
 
@@ -69,11 +73,11 @@ snapshots_walk_so one keep image script stack stood bytes walk saved walks name 
 pub saved_runs_walk_so : ImagesAreOne → SnapshotsWalkSo → SavedRunsWalkSo
 saved_runs_walk_so one walk_so contents names client limits saved ran so stopped has name w walked spelled same = by so.explained.stands
   where
-    by : (stands : _) →
-        elim stands as (λ _. Type 0) [
-          | inl there ↦ WalksSo (walk_of (setting_of so.program so.image so.script limits.stack) (state_at (setting_of so.program so.image so.script limits.stack) so.explained.input there.steps).store) w
-          | inr errs ↦ Unit {0}
-        ]
+    s : Setting
+    s = setting_of so.program so.image so.script limits.stack
+
+    by : (stands : StandsThere s so.explained.input limits.steps so.explained.shown so.answer (chain_walk so.image (region_of (launch_of so.image so.script limits.stack)) so.stood) ⊎ Errs s so.explained.input limits.steps so.explained.shown) →
+        elim stands as (λ _. Type 0) [ inl there ↦ WalksSo (walk_of s (state_at s so.explained.input there.steps).store) w | inr errs ↦ Unit {0} ]
     by (inl there) =
         let image : walked.program.image ≡ so.image = one walked.spelled.0 walked.program.image so.image walked.spelled.2 spelled in
         walk_so so.image so.script limits.stack so.stood has.bytes _ has.snapshot (there.leaves stopped) name saved w walked image same
