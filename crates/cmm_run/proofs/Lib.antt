@@ -5,5 +5,6 @@ pub mod Turning
 pub mod Taking
 pub mod AtYields
 pub mod WholeRuns
+pub mod Through
 pub mod Moving
 mod RunRows

@@ -9,7 +9,7 @@ use Rattle.rv_table.specs.declared.trap.Trap.{Trap}
 use Rattle.rv_table.specs.Machine as rv
 use Rattle.rv_table.specs.Machine.{State, MemoryMap, instruction_step, with_set}
 use Rattle.rv_sim.specs.declared.event.Event.TheVariants as event
-use Rattle.rv_sim.specs.Stepping.{event_of, outcome_of, state_after}
+use Rattle.rv_sim.specs.Stepping.{event_of, outcome_of}
 use Rattle.cmm_outside.specs.Output.{Appends, AppendsFront}
 use Rattle.cmm_report.proofs.Shared.{front_longer}
 use Rattle.cmm_image_machine.proofs.Shared.{step_grows}
@@ -18,7 +18,6 @@ use Rattle.cmm_program.specs.State as c
 use Rattle.cmm_image_machine.specs.Changes.{at_pc}
 use Rattle.cmm_image_machine.specs.Machine.{Launch, Run, Status, Running, Ended, Trapped, map_of, one_taken, after_instruction, step}
 use Rattle.cmm_client.specs.declared.stopped.Stopped.{Stopped}
-use Rattle.cmm_client.specs.declared.stopped.Thread.{Thread}
 use Rattle.cmm_client.specs.Stops as stops
 use Rattle.cmm_client.specs.Stops.{state_of}
 use Rattle.cmm_run.specs.declared.machine.Machine.{Machine}
@@ -39,10 +38,6 @@ step_is l run o running is = running_step ∙ ap (after_instruction l run) is
     running_step : step l run ≡ after_instruction l run (instruction_step (map_of l) run.machine)
     running_step = rw running refl
 
--- the program of one thread
-abbrev pub of_thread : Thread → Stopped
-of_thread t = record { thread = t }
-
 -- what comes of the instruction at pc
 abbrev pub outcome_in : Stopped → rv.Outcome
 outcome_in s = outcome_of s.thread.regs s.thread.memory
@@ -57,11 +52,6 @@ pub trap_of : (pc : ℕ) (t : Trap) (o : rv.Outcome) → event_of pc o ≡ event
 trap_of pc t (rv.Next s) is = absurd (cc is)
 trap_of pc t (rv.Asks r) is = absurd (cc is)
 trap_of pc t (rv.Traps kind) is = (cc, cc)
-
-pub next_of : (pc : ℕ) (o : rv.Outcome) (before after : State) → event_of pc o ≡ event.Next → after ≡ state_after before o → o ≡ rv.Next after
-next_of pc (rv.Next s) before after is state = ap rv.Next (sym state)
-next_of pc (rv.Asks r) before after is state = absurd (cc is)
-next_of pc (rv.Traps kind) before after is state = absurd (cc is)
 
 pub asks_of : (pc : ℕ) (o : rv.Outcome) (r : Request) → event_of pc o ≡ event.Asks r → o ≡ rv.Asks r
 asks_of pc (rv.Next s) r is = absurd (cc is)
@@ -152,35 +142,15 @@ module _ {Sink : Type 0} (taken : Sink → Option (List ℕ)) (faults : Sink →
 
 -- ---- the run goes on
 
--- the instruction asks for nothing
-pub next_turn : (l : Launch) (begun : Outside) (machine next : Machine) → stops.map_of machine.program ≡ map_of l →
-    outcome_in machine.program ≡ rv.Next (state_of next.program) → next.waiting ≡ machine.waiting → next.input_ended ≡ machine.input_ended →
-    HasTurned l begun begun machine next None (λ _. Unit {0})
-next_turn l begun machine next map goes waiting ended =
-    turns_without l begun begun machine next None (λ _. Unit {0}) refl ended (λ start run left at _.
-    subst (IsAt next start begun left) (sym (step_is l run (rv.Next (state_of next.program)) at.running (at_outcome l machine start begun left run map at ∙ goes)))
-    record {
-      running = at.running;
-      machine_is = refl;
-      input = at.input;
-      written = record {
-        output = subst (Moves start.output begun.output run.output) (sym waiting) at.written.output;
-        log = at.written.log;
-      };
-    })
-
--- it asks for something, which is done from the machine as it stood
-pub asks_turn : (l : Launch) (begun now : Outside) (machine asking after : Machine) (result : Option Outcome) (r : Request) → asking.program ≡ machine.program →
-    asking.waiting ≡ machine.waiting → asking.input_ended ≡ machine.input_ended → stops.map_of machine.program ≡ map_of l →
+-- it asks for something, which is done
+pub asks_turn : (l : Launch) (begun now : Outside) (machine after : Machine) (result : Option Outcome) (r : Request) → stops.map_of machine.program ≡ map_of l →
     outcome_in machine.program ≡ rv.Asks r →
-    HasTurned l begun now asking after result (λ run. instruction_step (map_of l) run.machine ≡ rv.Asks r) → HasTurned l begun now machine after result (λ _. Unit {0})
-asks_turn l begun now machine asking after result r program waiting ended map asks turned =
-    let same : asking ≡ machine = λ i. record { program = program i; waiting = waiting i; input_ended = ended i } in
-    let here = subst (λ (m : Machine). HasTurned l begun now m after result (λ run. instruction_step (map_of l) run.machine ≡ rv.Asks r)) same turned in record {
-      bytes = here.bytes;
-      taken = here.taken;
-      turns = λ start run rest may at _. here.turns start run rest may at (at_outcome l machine start begun (here.bytes ++ rest) run map at ∙ asks);
-    }
+    HasTurned l begun now machine after result (λ run. instruction_step (map_of l) run.machine ≡ rv.Asks r) → HasTurned l begun now machine after result (λ _. Unit {0})
+asks_turn l begun now machine after result r map asks turned = record {
+  bytes = turned.bytes;
+  taken = turned.taken;
+  turns = λ start run rest may at _. turned.turns start run rest may at (at_outcome l machine start begun (turned.bytes ++ rest) run map at ∙ asks);
+}
 
 -- ---- a byte is put
 

@@ -1,15 +1,12 @@
 //! What stays as it is in a run.
-ghost use Rattle.std.specs.Prelude.{◌≡◌, ◌≤◌, ◌+◌, IfOk};
-ghost use Rattle.rv_sim.specs.Standing.{found_at};
-ghost use Rattle.rv_table.specs.Memory.{data_base};
-ghost use Rattle.rv_table.specs.Table.{IsValid};
+ghost use Rattle.std.specs.Prelude.{◌≡◌};
+ghost use Rattle.rv_sim.specs.Standing.{IsTableOf};
 ghost use Rattle.cmm_script.specs.Limits.{HasFewValues};
 ghost use Rattle.cmm_run.specs.inside.Loading.{IsLoaded};
 
 use cmm_image::Image;
 use cmm_script::Script;
 use rv_sim::Decoded;
-use rv_table::{Instr, TrapKind};
 use std::marker::Model;
 
 /// An image with its code decoded, a script, and the size of the stack in bytes.
@@ -57,13 +54,11 @@ impl Loaded {
         }
     }
 
-    /// The instruction at an address. The error is the kind of the trap that is in its place.
-    pub fn at(&self, pc: u64) -> Result<Instr, TrapKind>
-        ensures found { result ≡ found_at self.now.image.code pc }
-        ensures valid { IfOk result IsValid }
-        ensures within { IfOk result (λ _. pc + 4 ≤ data_base) }
+    /// The instructions of the image's code.
+    pub fn table(&self) -> &Decoded
+        ensures { IsTableOf self.now.image.code result.now }
     {
-        self.table.at(pc)
+        &self.table
     }
 
     /// The image.

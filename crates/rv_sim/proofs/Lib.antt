@@ -1,3 +1,4 @@
 pub mod States
 pub mod Tables
 pub mod Shared
+pub mod Counting
