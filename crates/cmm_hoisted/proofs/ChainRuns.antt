@@ -1,21 +1,18 @@
 -- The chain of a new activation: its nodes give the temporaries their constants, and nothing else changes.
-use Rattle.std.proofs.Common.{◌≡◌, ◌⊎◌, ℕ, zero, suc, ◌+◌, ◌<◌, ◌≤◌, ◌^◌, inl, inr, refl, sym, ◌∙◌, ap, subst, arith, List, ◌∷◌, length, is_some, nat_lt}
+use Rattle.std.proofs.Common.{◌≡◌, ◌⊎◌, ℕ, zero, suc, ◌+◌, ◌-◌, ◌<◌, ◌≤◌, ◌^◌, max, inl, inr, refl, sym, ◌∙◌, ap, subst, arith, length, is_some, nat_lt}
 use Rattle.std.proofs.lemmas.Bool.{cases_eq}
 use Rattle.std.proofs.lemmas.Bool.Decides.{nat_tests}
 use Rattle.std.proofs.lemmas.Option.{slice_get_cases}
-use Rattle.std.specs.Prelude.{◌≢◌, slice_get, Contains, true, Some, None}
+use Rattle.std.specs.Prelude.{◌≢◌, slice_get, Contains, Bool, true, Ok, Some, None}
 use Rattle.cmm_words.specs.declared.constant.Constant.{Constant}
-use Rattle.cmm_simulation.proofs.Paths.{joined, one_step}
-use Rattle.cmm_simulation.specs.Machine.{Machine}
-use Rattle.cmm_simulation.specs.Simulation.{Leads}
-use Rattle.cmm_machine_laws.specs.Observed.{Call, Ending, machine_of}
+use Rattle.cmm_machine_laws.specs.Observed.{event_at}
 use Rattle.cmm_program.proofs.Shared.{all_get}
-use Rattle.cmm_program.specs.Control.{State}
 use Rattle.cmm_program.specs.Layout.{constant_value}
+use Rattle.cmm_program.specs.Performing.{Stay}
 use Rattle.cmm_program.specs.State.{Running, Store}
 use Rattle.cmm_graph.specs.Acting.{led}
 use Rattle.cmm_graph.specs.GraphControl.{Position, graph_control, kind_here, with_temporary}
-use Rattle.cmm_graph.specs.GraphMachine.{graph_step, tokens_at}
+use Rattle.cmm_graph.specs.GraphMachine.{tokens_at}
 use Rattle.cmm_graph.specs.Paths.{node_of}
 use Rattle.cmm_graph.specs.declared.number.NodeId.{NodeId}
 use Rattle.cmm_graph.specs.declared.number.Temporary.{Temporary}
@@ -26,16 +23,13 @@ use Rattle.cmm_graph.specs.declared.operand.Destination.TheVariants as destinati
 use Rattle.cmm_graph.specs.declared.operand.Rvalue.TheVariants.{Copy}
 use Rattle.cmm_hoist.specs.Graphs.{all_operands, keeping_node}
 use Rattle.cmm_hoist.specs.Keeping.{keeper}
-use Rattle.cmm_flow.specs.Laws.{leads_on}
-use Rattle.cmm_hoisted.specs.Laws.{AreCostsWithin}
+use Rattle.cmm_rewriting.specs.Places.{ComesBy, comes_to}
 use Rattle.cmm_hoisted.proofs.Constants.{constant_is_word}
+use Rattle.cmm_hoisted.proofs.Costs.{by_place, now}
 use Rattle.cmm_hoisted.proofs.Nodes.{keeper_there, lead}
 use Rattle.cmm_hoisted.proofs.Relation.{HasGraphs, Hoisted, InChain, Stand}
 
 module _ (r : Hoisted) where
-  abbrev pub machine : Machine (State Position) ℕ Call Ending
-  machine = machine_of (graph_control r.news) r.setting
-
   abbrev value : Constant → ℕ
   value c = constant_value r.setting.program r.setting.placement c
 
@@ -64,7 +58,7 @@ same_temporary t u v temporaries same = grind (arith, nat_tests)
 
 -- ---- one node
 
-module _ {r : Hoisted} (store : Store) (running : store.status ≡ Running) (ds : List Position) (k : ℕ) (c d : Position) (is : InChain r (suc k) c d) where
+module _ {r : Hoisted} (store : Store) (k : ℕ) (c d : Position) (is : InChain r (suc k) c d) where
   abbrev of : HasGraphs r c.procedure
   of = is.of
 
@@ -80,9 +74,6 @@ module _ {r : Hoisted} (store : Store) (running : store.status ≡ Running) (ds 
   -- where it leads: its temporary has the constant
   abbrev next : Position
   next = record { procedure = d.procedure; node = lead of.old of.new of.hoisted k; temporaries = with_temporary first word d.temporaries }
-
-  abbrev here : State Position
-  here = record { store = store; controls = d ∷ ds }
 
   goes_on : InChain r k c next
   goes_on = record {
@@ -122,55 +113,37 @@ module _ {r : Hoisted} (store : Store) (running : store.status ≡ Running) (ds 
   fits : nat_lt word (2 ^ 64) ≡ true
   fits = grind (arith, nat_tests, at.small)
 
-  steps_on : graph_step r.news r.setting here ≡ record { store = store; controls = next ∷ ds }
-  steps_on = grind (arith, running, kind_is, fits)
+  -- it keeps its word, and stands at no event
+  comes : comes_to r.setting store ((graph_control r.news).act d) ≡ Ok (Stay word store)
+  comes = grind (arith, kind_is, fits)
 
-  asks_nothing : (machine r).asks here ≡ None
-  asks_nothing = grind (arith, running, kind_is)
+  leads_to_next : (graph_control r.news).on word d ≡ next
+  leads_to_next = grind (arith, kind_is)
 
-  leads : leads_on r.news here ≡ true
-  leads = ap (λ (kind : NodeKind). is_some (led 0 kind)) kind_is
+  quiet : event_at r.setting Running store ((graph_control r.news).act d) ≡ None
+  quiet = grind (arith, kind_is)
 
-  cost_is : (most : ℕ) (cost : State Position → ℕ) → AreCostsWithin r.news cost most → cost here ≤ 1
-  cost_is most cost costs = omega (arith, costs.leading here running leads, tokens_are)
+  costs_one : (most : ℕ) → now r most d ≤ 1
+  costs_one most =
+      let leads : is_some (led 0 (kind_here r.news d)) ≡ true = ap (λ (kind : NodeKind). is_some (led 0 kind)) kind_is in
+      let is_max : now r most d ≡ max 1 (tokens_at r.news d) = ap (λ (x : Bool). by_place most x (tokens_at r.news d)) leads in
+      omega (arith, is_max, tokens_are)
 
 -- ---- the chain
 
-module _ (r : Hoisted) (store : Store) where
-  -- all is as it was, but for where the youngest activation stands
-  pub record IsSilent (u : State Position) : Type 0 where
-    pub shows : ((machine r).step u).store ≡ store
-    pub asks : (machine r).asks u ≡ None
-
-  pub record HasCome (c : Position) (ds : List Position) (u : State Position) : Type 0 where
-    pub position : Position
-    pub stands : Stand r c position
-    pub is : u ≡ record { store = store; controls = position ∷ ds }
-
-abbrev Comes : (r : Hoisted) → (State Position → ℕ) → Store → List Position → ℕ → Position → State Position → Type 0
-Comes r cost store ds k c u = Leads (machine r) cost (IsSilent r store) (HasCome r store c ds) 0 k u
-
-module _ {r : Hoisted} {most : ℕ} {cost : State Position → ℕ} (costs : AreCostsWithin r.news cost most) (store : Store)
-    (running : store.status ≡ Running) (ds : List Position) where
-  -- its nodes are passed one after the other, each at one token
-  pub chain_goes : (k : ℕ) (c d : Position) → InChain r k c d → Comes r cost store ds k c record { store = store; controls = d ∷ ds }
-  chain_goes zero c d is = record {
-    steps = 0;
-    through = λ i less. absurd (omega arith);
-    arrives = record {
-      position = d;
-      stands = record { of = is.of; procedure = is.procedure; node = is.node ∙ sym is.behind; step = is.step; hold = is.hold };
-      is = refl;
-    };
-    enough = omega arith;
-    within = omega arith;
-  }
-  chain_goes (suc k) c d is =
-      let there = steps_on store running ds k c d is in
-      joined {n = 0} {o = k}
-      (one_step {Q = λ u. u ≡ record { store = store; controls = next store running ds k c d is ∷ ds }} record {
-        shows = ap (λ (u : State Position). u.store) there;
-        asks = asks_nothing store running ds k c d is;
-      } there (cost_is store running ds k c d is most cost costs))
-      (λ u same. subst (Comes r cost store ds k c) (sym same) (chain_goes k c (next store running ds k c d is) (goes_on store running ds k c d is)))
-      (omega arith) (omega arith)
+-- Its nodes are passed one after the other, each at one token.
+pub chain_comes : (r : Hoisted) (leaving : ℕ) (store : Store) (c : Position) (k most : ℕ) → k ≤ most → (d : Position) → InChain r k c d →
+    ComesBy (graph_control r.news) r.setting (λ store c d. Stand r c d) (now r leaving) k store c most d
+chain_comes r leaving store c zero most few d is =
+    record { of = is.of; procedure = is.procedure; node = is.node ∙ sym is.behind; step = is.step; hold = is.hold }
+chain_comes r leaving store c (suc k) most few d is =
+    let one = costs_one store k c d is leaving in
+    record {
+      way = word store k c d is;
+      stays = comes store k c d is;
+      quiet = quiet store k c d is;
+      left = most - 1;
+      within = omega (arith, one, few);
+      on = subst (λ (to : Position). ComesBy (graph_control r.news) r.setting (λ store c d. Stand r c d) (now r leaving) k store c (most - 1) to)
+          (sym (leads_to_next store k c d is)) (chain_comes r leaving store c k (most - 1) (omega (arith, few)) (next store k c d is) (goes_on store k c d is));
+    }

@@ -5,42 +5,31 @@ use Rattle.std.specs.List.{AllZip}
 use Rattle.cmm_program.specs.Control.{State}
 use Rattle.cmm_program.specs.State.{Status, Store, Running, Waiting, Ended, Wrong}
 use Rattle.cmm_program.specs.declared.procedure.Proc.{Proc}
+use Rattle.cmm_rewriting.specs.States as states
+use Rattle.cmm_rewriting.specs.States.{StandAs, Together}
 use Rattle.cmm_graph.specs.Acting.{led}
-use Rattle.cmm_graph.specs.GraphControl.{Position, kind_here}
+use Rattle.cmm_graph.specs.GraphControl.{Position, graph_control, kind_here}
 use Rattle.cmm_graph.specs.GraphMachine.{tokens_at, tokens_of_youngest}
 use Rattle.cmm_flow.specs.Laws.{AreCosts, leads_on}
 use Rattle.cmm_flow.specs.Relation.{longest, longest_of}
 use Rattle.cmm_hoisted.specs.Laws.{AreCostsWithin}
-use Rattle.cmm_hoisted.proofs.Relation.{Hoisted, Stand, led_same, tokens_same}
-use Rattle.cmm_hoisted.proofs.Steps.{Together}
+use Rattle.cmm_hoisted.proofs.Relation.{Hoisted, Stand, tokens_same}
 
-module _ {r : Hoisted} (a b : State Position) (is : Together (Stand r) a b) where
-  tokens_of_same : tokens_of_youngest r.news b ≡ tokens_of_youngest r.olds a
-  tokens_of_same = by a.controls b.controls is.controls
-    where
-      by : (cs ds : List Position) → AllZip (Stand r) cs ds →
-          ◌≡◌ {A = ℕ} (elim ds [ [] ↦ 0 | d ∷ _ ↦ tokens_at r.news d ]) (elim cs [ [] ↦ 0 | c ∷ _ ↦ tokens_at r.olds c ])
-      by [] [] all = refl
-      by [] (d ∷ ds) all = absurd all
-      by (c ∷ cs) [] all = absurd all
-      by (c ∷ cs) (d ∷ ds) all = tokens_same all.0
+-- a step may be followed by so much, where its node does not lead on
+abbrev pub by_place : ℕ → Bool → ℕ → ℕ
+by_place behind true tokens = max 1 tokens
+by_place behind false tokens = max 1 tokens + behind
 
-  leads_same : leads_on r.news b ≡ leads_on r.olds a
-  leads_same = by a.controls b.controls is.controls
-    where
-      by : (cs ds : List Position) → AllZip (Stand r) cs ds →
-          ◌≡◌ {A = Bool} (elim ds [ [] ↦ false | d ∷ _ ↦ is_some (led 0 (kind_here r.news d)) ])
-          (elim cs [ [] ↦ false | c ∷ _ ↦ is_some (led 0 (kind_here r.olds c)) ])
-      by [] [] all = refl
-      by [] (d ∷ ds) all = absurd all
-      by (c ∷ cs) [] all = absurd all
-      by (c ∷ cs) (d ∷ ds) all = ap (λ o. is_some o) (led_same all.0 0)
-
--- a step may be followed by a chain, where its node does not lead on
 module _ (r : Hoisted) (most : ℕ) where
+  -- by where the youngest activation stands
+  abbrev pub now : Position → ℕ
+  now d = by_place most (is_some (led 0 (kind_here r.news d))) (tokens_at r.news d)
+
+  abbrev pub before : Position → ℕ
+  before c = by_place (most + r.chained) (is_some (led 0 (kind_here r.olds c))) (tokens_at r.olds c)
+
   abbrev by_status : Status → Bool → ℕ → ℕ
-  by_status Running true tokens = max 1 tokens
-  by_status Running false tokens = max 1 tokens + (most + r.chained)
+  by_status Running leads tokens = by_place (most + r.chained) leads tokens
   by_status status leads tokens = max most tokens + (most + r.chained)
 
   abbrev pub cost_before : State Position → ℕ
@@ -78,29 +67,78 @@ module _ (r : Hoisted) (most : ℕ) where
       by (Ended outcome) leads tokens = omega (arith, small)
       by (Wrong error) leads tokens = omega (arith, small)
 
-module _ {r : Hoisted} {most : ℕ} {cost : State Position → ℕ} (costs : AreCostsWithin r.news cost most) (a b : State Position)
-    (is : Together (Stand r) a b) where
-  running_too : a.store.status ≡ Running → b.store.status ≡ Running
+-- ---- beside those of the hoisted graphs
+
+module _ {r : Hoisted} (x y : State Position) (is : Together (λ store c d. Stand r c d) (Stand r) x y) where
+  tokens_of_same : tokens_of_youngest r.news y ≡ tokens_of_youngest r.olds x
+  tokens_of_same = by x.store.status x.controls y.controls is.stands
+    where
+      all_same : (cs ds : List Position) → AllZip (Stand r) cs ds →
+          ◌≡◌ {A = ℕ} (elim ds [ [] ↦ 0 | d ∷ _ ↦ tokens_at r.news d ]) (elim cs [ [] ↦ 0 | c ∷ _ ↦ tokens_at r.olds c ])
+      all_same [] [] all = refl
+      all_same [] (d ∷ ds) all = absurd all
+      all_same (c ∷ cs) [] all = absurd all
+      all_same (c ∷ cs) (d ∷ ds) all = tokens_same all.0
+
+      by : (status : Status) (cs ds : List Position) → StandAs (λ store c d. Stand r c d) (Stand r) x.store status cs ds →
+          ◌≡◌ {A = ℕ} (elim ds [ [] ↦ 0 | d ∷ _ ↦ tokens_at r.news d ]) (elim cs [ [] ↦ 0 | c ∷ _ ↦ tokens_at r.olds c ])
+      by Running [] [] stands = refl
+      by Running [] (d ∷ ds) stands = absurd stands
+      by Running (c ∷ cs) [] stands = absurd stands
+      by Running (c ∷ cs) (d ∷ ds) stands = tokens_same stands.0
+      by (Waiting values) cs ds stands = all_same cs ds stands
+      by (Ended outcome) cs ds stands = all_same cs ds stands
+      by (Wrong error) cs ds stands = absurd stands
+
+  running_too : x.store.status ≡ Running → y.store.status ≡ Running
   running_too running = ap (λ (store : Store). store.status) is.store ∙ running
 
-  -- the step of a node that leads on
-  pub leading_cost : a.store.status ≡ Running → leads_on r.olds a ≡ true → cost b ≤ cost_before r most a
-  leading_cost running leads =
-      let bound = costs.leading b (running_too running) (leads_same a b is ∙ leads) in
-      omega (arith, bound, tokens_of_same a b is, leading_is r most a running leads)
-
-  -- that of any other
-  pub other_cost : (a.store.status ≡ Running → leads_on r.olds a ≡ false) → cost b + r.chained ≤ cost_before r most a
-  other_cost leaves = by a.store.status refl
+module _ (r : Hoisted) {most : ℕ} {cost : State Position → ℕ} (costs : AreCostsWithin r.news cost most) where
+  -- a node costs what its place does
+  placed_cost : (store : Store) (d : Position) (ds : List Position) → store.status ≡ Running → cost record { store = store; controls = d ∷ ds } ≤ now r most d
+  placed_cost store d ds running = by (is_some (led 0 (kind_here r.news d))) refl
     where
-      rest : cost b ≤ max most (tokens_of_youngest r.olds a) + most
-      rest = let bound = costs.resting b in omega (arith, bound, tokens_of_same a b is)
+      by : (leads : Bool) → is_some (led 0 (kind_here r.news d)) ≡ leads →
+          cost record { store = store; controls = d ∷ ds } ≤ by_place most leads (tokens_at r.news d)
+      by true leads = costs.leading record { store = store; controls = d ∷ ds } running leads
+      by false leads = costs.running record { store = store; controls = d ∷ ds } running
 
-      by : (status : Status) → a.store.status ≡ status → cost b + r.chained ≤ by_status r most status (leads_on r.olds a) (tokens_of_youngest r.olds a)
-      by Running running =
-          let bound = costs.running b (running_too running) in
-          subst (λ (x : Bool). cost b + r.chained ≤ by_status r most Running x (tokens_of_youngest r.olds a)) (sym (leaves running))
-          (omega (arith, bound, tokens_of_same a b is))
-      by (Waiting values) is_status = omega (arith, rest)
-      by (Ended outcome) is_status = omega (arith, rest)
-      by (Wrong error) is_status = omega (arith, rest)
+  placed_before : (store : Store) (c : Position) (cs : List Position) → store.status ≡ Running → cost_before r most record { store = store; controls = c ∷ cs } ≡ before r most c
+  placed_before store c cs running =
+      ap (λ (status : Status). by_status r most status (is_some (led 0 (kind_here r.olds c))) (tokens_at r.olds c)) running
+
+  module _ (x y : State Position) (is : Together (λ store c d. Stand r c d) (Stand r) x y) where
+    rest : cost y ≤ max most (tokens_of_youngest r.olds x) + most
+    rest = let bound = costs.resting y in omega (arith, bound, tokens_of_same x y is)
+
+    waiting_cost : (values : List ℕ) → x.store.status ≡ Waiting values → cost y + r.chained ≤ cost_before r most x
+    waiting_cost values waiting =
+        let same : cost_before r most x ≡ max most (tokens_of_youngest r.olds x) + (most + r.chained) =
+        ap (λ (status : Status). by_status r most status (leads_on r.olds x) (tokens_of_youngest r.olds x)) waiting in
+        omega (arith, rest, same)
+
+    -- where nobody runs
+    alone : x.store.status ≡ Running → x.controls ≡ [] → cost y ≤ by_place (most + r.chained) (leads_on r.olds x) (tokens_of_youngest r.olds x)
+    alone running none =
+        let bound = costs.running y (running_too x y is running) in
+        let leads : leads_on r.olds x ≡ false =
+        ap (λ (cs : List Position). elim cs as (λ _. Bool) [ [] ↦ false | c ∷ _ ↦ is_some (led 0 (kind_here r.olds c)) ]) none in
+        subst (λ (b : Bool). cost y ≤ by_place (most + r.chained) b (tokens_of_youngest r.olds x)) (sym leads) (omega (arith, bound, tokens_of_same x y is))
+
+    resting_cost : (x.store.status ≡ Running → x.controls ≡ []) → cost y ≤ cost_before r most x
+    resting_cost none = by x.store.status refl
+      where
+        by : (status : Status) → x.store.status ≡ status → cost y ≤ by_status r most status (leads_on r.olds x) (tokens_of_youngest r.olds x)
+        by Running running = alone running (none running)
+        by (Waiting values) status = omega (arith, rest)
+        by (Ended outcome) status = omega (arith, rest)
+        by (Wrong error) status = omega (arith, rest)
+
+  -- beside those before, they are costs as a rewriting has them
+  pub are_rewriting_costs : states.AreCosts (λ store c d. Stand r c d) (Stand r) (graph_control r.news) r.setting (before r most) (now r most) r.chained (cost_before r most) cost
+  are_rewriting_costs = record {
+    runs = λ store c cs d ds running extra few le. omega (arith, placed_cost store d ds running, placed_before store c cs running, le);
+    alone = λ store d ds way running stays few. placed_cost store d ds running;
+    waits = λ x y values is waiting. waiting_cost x y is values waiting;
+    rests = λ x y is none. resting_cost x y is none;
+  }

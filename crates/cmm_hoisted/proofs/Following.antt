@@ -1,32 +1,25 @@
--- Runs over hoisted flows follow runs of the C-- machine: they simulate runs over the folded flows, once the chain of `main` is done.
-use Rattle.std.proofs.Common.{◌≡◌, ℕ, zero, suc, ◌+◌, ◌-◌, ◌*◌, ◌/◌, ◌<◌, ◌≤◌, inl, inr, refl, sym, ◌∙◌, ap, subst, arith, List, [], ◌∷◌, length}
+-- Runs over hoisted flows follow runs of the C-- machine: they are a rewriting of the folded flows, which do.
+use Rattle.std.proofs.Common.{◌≡◌, ℕ, zero, suc, ◌+◌, ◌-◌, ◌*◌, ◌/◌, ◌≤◌, inl, inr, refl, subst, arith, List, [], ◌∷◌, length}
 use Rattle.std.proofs.lemmas.Option.{slice_get_cases}
-use Rattle.std.specs.Prelude.{slice_get, Bool, true, false, Option, Some, None}
+use Rattle.std.specs.Prelude.{slice_get, Some}
 use Rattle.std.specs.List.{All, AllZip}
-use Rattle.cmm_simulation.proofs.Composing.{lazily_trans, preceded}
-use Rattle.cmm_simulation.proofs.Followings.{follows_of_simulates}
-use Rattle.cmm_simulation.proofs.Paths.{weaker}
-use Rattle.cmm_simulation.proofs.Runs.{spent_scaled}
 use Rattle.cmm_simulation.proofs.Scaling.{follows_scaled}
 use Rattle.cmm_simulation.specs.Following.{Follows}
-use Rattle.cmm_simulation.specs.Machine.{Machine, after, spent}
-use Rattle.cmm_simulation.specs.Observing.{Level, Passes}
-use Rattle.cmm_simulation.specs.Seen.{IsWithin}
-use Rattle.cmm_simulation.specs.Simulation.{Leads}
-use Rattle.cmm_machine_laws.proofs.Shared.{machine_lasts}
+use Rattle.cmm_simulation.specs.Machine.{Machine}
+use Rattle.cmm_machine_laws.proofs.Shared.{machine_lasts, starts_right}
 use Rattle.cmm_machine_laws.specs.Fitting.{IsSetUp}
-use Rattle.cmm_machine_laws.specs.Observed.{Call, Ending, machine_of, store_seen}
+use Rattle.cmm_machine_laws.specs.Observed.{Call, Ending, machine_of}
 use Rattle.cmm_program.proofs.Shared.{all_get}
 use Rattle.cmm_program.specs.Bounds as bounds
-use Rattle.cmm_program.specs.Control.{Control, State, landed}
-use Rattle.cmm_program.specs.Exits.{Instead, Landing, land}
+use Rattle.cmm_program.specs.Control.{State}
 use Rattle.cmm_program.specs.Frames.{procedure_at}
 use Rattle.cmm_program.specs.InRange.{IsProcInRange}
-use Rattle.cmm_program.specs.Machine.{first_store, start}
+use Rattle.cmm_program.specs.Machine.{start}
 use Rattle.cmm_program.specs.Memory.{IsByte}
-use Rattle.cmm_program.specs.State.{Running, Setting, Status, Store, Wrong}
+use Rattle.cmm_program.specs.State.{Setting}
 use Rattle.cmm_program.specs.Todo.{Todo, todo_control}
 use Rattle.cmm_program.specs.declared.procedure.Proc.{Proc}
+use Rattle.cmm_rewriting.proofs.Shared.{follows_rewritten}
 use Rattle.cmm_graph.specs.GraphControl.{Position, graph_control}
 use Rattle.cmm_graph.specs.GraphMachine.{graph_start}
 use Rattle.cmm_graph.specs.Laws.{OrderIsByReads, ValueIsByReads}
@@ -37,21 +30,9 @@ use Rattle.cmm_folded.specs.Flow.{IsFoldedFlow}
 use Rattle.cmm_folded.specs.Laws.{FoldedFlowsAreGraphs, FoldedFlowsFollow}
 use Rattle.cmm_hoisted.specs.Flow.{AreFlowsWithin, IsFlowWithin}
 use Rattle.cmm_hoisted.specs.Laws.{AreCostsWithin, HoistedFlowsFollow}
-use Rattle.cmm_hoisted.proofs.ChainRuns.{IsSilent, machine}
-use Rattle.cmm_hoisted.proofs.Costs.{are_costs, cost_before}
-use Rattle.cmm_hoisted.proofs.Relation.{GoOn, HasGraphs, Hoisted, Stand, go_on}
-use Rattle.cmm_hoisted.proofs.Simulating.{enters, is_wrong, level_by_store, simulates}
-use Rattle.cmm_hoisted.proofs.Steps.{Together, landed_by, lands}
-
--- ---- the store after a landing
-
-landed_same : {C D : Type 0} (k : Control C) (l : Control D) (s : Setting) (landing : Landing) (store : Store) (cs : List C) (ds : List D) →
-    (landed l s landing store ds).store ≡ (landed k s landing store cs).store
-landed_same k l s landing store cs ds = by (land s landing store)
-  where
-    by : (o : Option Store) → (landed_by l s store ds landing o).store ≡ (landed_by k s store cs landing o).store
-    by (Some there) = refl
-    by None = refl
+use Rattle.cmm_hoisted.proofs.Costs.{are_costs, are_rewriting_costs, cost_before}
+use Rattle.cmm_hoisted.proofs.Relation.{HasGraphs, Hoisted}
+use Rattle.cmm_hoisted.proofs.Rewritten.{are_rewritten}
 
 -- ---- the folded flows
 
@@ -130,25 +111,6 @@ module _ (s : Setting) (graphs : List Graph) (input : List ℕ) (cost : State Po
   abbrev told : Machine (State Todo) ℕ Call Ending
   told = machine_of (todo_control s.program) s
 
-  abbrev Runs : ℕ → State Position → Type 0
-  Runs each b = Follows told (λ _. each) (machine r) cost (start s input) b
-
-  -- where the run over the folded flows begins
-  abbrev first : State Position
-  first = graph_start r.olds s input
-
-  same_start : first.store ≡ (start s input).store
-  same_start = landed_same (todo_control s.program) (graph_control r.olds) s (Instead s.program.main []) (first_store s input) [] []
-
-  -- the chain of `main` shows nothing more
-  silent_passes : (u : State Position) → first.store.status ≡ Running → IsSilent r first.store u → Passes told (machine r) (start s input) u
-  silent_passes u running silent = record {
-    seen = subst (λ (store : Store). IsWithin (store_seen store) (told.seen (told.step (start s input)))) (sym (silent.shows ∙ same_start))
-        ((machine_lasts (todo_control s.program) s).grows (start s input));
-    asks = λ event at. absurd (cc (silent.asks, at));
-    right = λ right. ap is_wrong silent.shows ∙ ap (λ (status : Status). elim status as (λ _. Bool) [ Wrong error ↦ true | _ ↦ false ]) running;
-  }
-
   module _ (by_values : ValueIsByReads) (by_reads : OrderIsByReads) (are_graphs : FoldedFlowsAreGraphs) (follow : FoldedFlowsFollow) where
     have_graphs : (n : ℕ) (q : Proc) → procedure_at s n ≡ Some q → HasGraphs r n
     have_graphs n q there =
@@ -164,23 +126,15 @@ module _ (s : Setting) (graphs : List Graph) (input : List ℕ) (cost : State Po
           few = omega (arith, of.spared, small);
         }
 
-    go : GoOn r
-    go = go_on r by_values by_reads have_graphs
-
-    from : (b : State Position) → Together (Stand r) first b → Runs (longest s.program + (most + r.chained)) b
-    from b together =
+    -- what the C-- machine does, the folded flows do, and with the chain of `main` the hoisted ones
+    follows : Follows told (λ _. longest s.program + longest s.program) (machine_of (graph_control graphs) s) cost (start s input) (graph_start graphs s input)
+    follows =
         let before = are_costs r most (omega (arith, small, within_longest s.program.procs)) in
-        lazily_trans (follow s r.olds input (cost_before r most) (most + r.chained) set bytes have.are before) (follows_of_simulates (simulates go costs) together)
-
-    follows : Runs (longest s.program + longest s.program) (graph_start graphs s input)
-    follows = elim (lands go (Instead s.program.main []) (first_store s input) [] [] tt) [
-      | inl together ↦ follows_scaled 1 (λ u. omega (arith, enough)) (λ u. omega arith) (from (graph_start graphs s input) together)
-      | inr begins ↦ follows_scaled 1 (λ u. omega (arith, enough)) (λ u. omega arith)
-          (preceded r.chained
-          (level_by_store (todo_control s.program) (graph_control graphs) s (start s input) (graph_start graphs s input) (begins.store ∙ same_start))
-          (weaker (enters go costs first (graph_start graphs s input) begins) (λ u silent. silent_passes u begins.running silent)
-          (λ u together. from u together) (omega arith) (λ n le. le)))
-    ]
+        follows_scaled 1 (λ u. omega (arith, enough)) (λ u. omega arith)
+        (follows_rewritten (are_rewritten r most by_values by_reads have_graphs) (are_rewriting_costs r costs) {H = λ st. Unit {0}}
+        record { next = λ st is. tt; known = λ store c cs running is. tt } input tt
+        (machine_lasts (todo_control s.program) s) (starts_right (todo_control s.program) s input)
+        (follow s r.olds input (cost_before r most) (most + r.chained) set bytes have.are before))
 
 pub hoisted_flows_follow : ValueIsByReads → OrderIsByReads → FoldedFlowsAreGraphs → FoldedFlowsFollow → HoistedFlowsFollow
 hoisted_flows_follow by_values by_reads are_graphs follow s graphs input cost within set bytes costs =

@@ -12,14 +12,13 @@ pub mod Within
 pub mod Leading
 pub mod Liveness
 pub mod LivenessSets
-pub mod Steps
 pub mod Orders
 pub mod Landings
 pub mod Constants
 pub mod Relation
-pub mod ChainRuns
 pub mod Staying
 pub mod Costs
-pub mod Simulating
+pub mod ChainRuns
+pub mod Rewritten
 pub mod Following
 pub mod Shared

@@ -8,7 +8,6 @@ use Rattle.std.specs.List.{list_all}
 use Rattle.cmm_words.specs.declared.constant.Constant.{Constant}
 use Rattle.cmm_program.specs.declared.procedure.Proc.{Proc}
 use Rattle.cmm_program.specs.Acts.{evaluated}
-use Rattle.cmm_program.specs.Frames.{procedure_at}
 use Rattle.cmm_program.specs.Layout.{constant_value}
 use Rattle.cmm_program.specs.State.{Setting, Store}
 use Rattle.cmm_program.specs.Writes.{reads_of}
@@ -34,7 +33,6 @@ use Rattle.cmm_hoist.specs.Keeping.{NodeStandsFor, keeper}
 use Rattle.cmm_hoisted.proofs.Landings.{behind_copy, kind_in_range, landing_to_copy, led_there, led_to_step, normal_to_copy}
 use Rattle.cmm_hoisted.proofs.Nodes.{IsBlind, MayStand, entry_there, kind_same, lead, new_node, start_is}
 use Rattle.cmm_hoisted.proofs.Orders.{order_same}
-use Rattle.cmm_hoisted.proofs.Steps.{GoTogether}
 
 -- the graphs of a program before and now, each of which keeps at most so many constants
 pub record Hoisted : Type 0 where
@@ -146,7 +144,7 @@ module _ {r : Hoisted} {c d : Position} (is : Stand r c d) where
   abbrev of : HasGraphs r c.procedure
   of = is.of
 
-  pub here : AreKinds r of c.node
+  here : AreKinds r of c.node
   here = kinds of is_step c.node (λ formals next. refl) is.step
 
   -- the nodes of both graphs
@@ -159,7 +157,7 @@ module _ {r : Hoisted} {c d : Position} (is : Stand r c d) where
   other_at : other ≡ kind_at r.news c.procedure c.node
   other_at = ap (λ (q : ℕ). kind_at r.news q d.node) is.procedure ∙ ap (λ (n : NodeId). kind_at r.news c.procedure n) is.node
 
-  pub other_is : other ≡ here.new.kind
+  other_is : other ≡ here.new.kind
   other_is = other_at ∙ here.now
 
   pub tokens_same : tokens_at r.news d ≡ tokens_at r.olds c
@@ -176,7 +174,7 @@ module _ {r : Hoisted} {c d : Position} (is : Stand r c d) where
   led_same way = same_here (led way) (led_blind way)
 
   -- the store is asked for the same
-  asks_same : ValueIsByReads → OrderIsByReads → (store : Store) →
+  pub asks_same : ValueIsByReads → OrderIsByReads → (store : Store) →
       evaluated (reads_of r.setting store) ((graph_control r.news).act d) ≡ evaluated (reads_of r.setting store) ((graph_control r.olds).act c)
   asks_same by_values by_reads store =
       ap (λ (k : NodeKind). evaluated (reads_of r.setting store) (act_of (keeping d) k)) other_is
@@ -208,7 +206,7 @@ module _ {r : Hoisted} {c d : Position} (is : Stand r c d) where
   abbrev on_old : ℕ → Position
   on_old way = (graph_control r.olds).on way c
 
-  on_stands : (way : ℕ) → Stand r (on_old way) ((graph_control r.news).on way d)
+  pub on_stands : (way : ℕ) → Stand r (on_old way) ((graph_control r.news).on way d)
   on_stands way =
       let hold = subst (λ (k : NodeKind). Hold r of 0 (temporaries_after way k c.temporaries) (temporaries_after way k d.temporaries)) (sym here.before)
       (written way here.old.kind here.range) in
@@ -236,12 +234,12 @@ module _ {r : Hoisted} {c d : Position} (is : Stand r c d) where
         hold = is.hold;
       }
 
-  back_stands : Stand r ((graph_control r.olds).back c) ((graph_control r.news).back d)
+  pub back_stands : Stand r ((graph_control r.olds).back c) ((graph_control r.news).back d)
   back_stands =
       subst (λ (to : Option NodeId). Stand r ((graph_control r.olds).back c) (landed_at r.news to d)) (sym (same_here normal_of normal_blind))
       (lands (normal_of kind) (λ n leads. normal_to_copy of.old here.old.kind n here.range (sym (ap normal_of here.before) ∙ leads)))
 
-  resume_stands : (k : ℕ) → Stand r ((graph_control r.olds).resume k c) ((graph_control r.news).resume k d)
+  pub resume_stands : (k : ℕ) → Stand r ((graph_control r.olds).resume k c) ((graph_control r.news).resume k d)
   resume_stands k =
       let landing : Option NodeId = landing_of of.old record { number = k } in
       let was : in_graph r.olds c.procedure (λ g. landing_of g record { number = k }) ≡ landing = grind (arith, of.is_old) in
@@ -258,7 +256,7 @@ abbrev at : ℕ → NodeId → Position
 at q n = record { procedure = q; node = n; temporaries = λ t. 0 }
 
 -- it begins at the chain, and the other one behind its Entry
-begins_together : (r : Hoisted) (q : ℕ) → HasGraphs r q → Begin r ((graph_control r.olds).begin q) ((graph_control r.news).begin q)
+pub begins_together : (r : Hoisted) (q : ℕ) → HasGraphs r q → Begin r ((graph_control r.olds).begin q) ((graph_control r.news).begin q)
 begins_together r q of =
     let h = of.hoisted in
     let count = length h.kept in
@@ -284,18 +282,3 @@ begins_together r q of =
     } in
     subst (λ (c : Position). Begin r c ((graph_control r.news).begin q)) (sym was)
     (subst (λ (d : Position). Begin r (at q h.next) d) (sym now) (count, begun))
-
--- ---- the controls
-
-abbrev pub GoOn : Hoisted → Type 0
-GoOn r = GoTogether (Stand r) (Begin r) (graph_control r.olds) (graph_control r.news) r.setting
-
-pub go_on : (r : Hoisted) → ValueIsByReads → OrderIsByReads → ((n : ℕ) (q : Proc) → procedure_at r.setting n ≡ Some q → HasGraphs r n) → GoOn r
-go_on r by_values by_reads have = record {
-  asks = λ store c d is. asks_same is by_values by_reads store;
-  on = λ way c d is. on_stands is way;
-  later = λ c d is. is;
-  back = λ c d is. back_stands is;
-  resume = λ k c d is. resume_stands is k;
-  begin = λ n q there. begins_together r n (have n q there);
-}

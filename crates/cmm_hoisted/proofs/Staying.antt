@@ -1,13 +1,12 @@
--- A node that leads on stays in its activation, and the event at which a node stands is the same where it has other operands.
-use Rattle.std.proofs.Common.{◌≡◌, ℕ, refl, ◌∙◌, List, [], ◌∷◌}
-use Rattle.std.specs.Prelude.{Ok, Err, Some}
-use Rattle.cmm_machine_laws.specs.Observed.{event_at}
+-- A node that leads on stays in its activation, so it enters no procedure.
+use Rattle.std.proofs.Common.{◌≡◌, ℕ, refl, sym, ap, List, [], ◌∷◌, is_some}
+use Rattle.std.specs.Prelude.{true, Ok, Err, Option, Some, None}
 use Rattle.cmm_program.specs.Acts.{places_of, values_of}
 use Rattle.cmm_program.specs.Errors.{Tried, and_then}
 use Rattle.cmm_program.specs.Orders as order
 use Rattle.cmm_program.specs.Orders.{Held, Place, writes}
-use Rattle.cmm_program.specs.Performing.{Stay, perform}
-use Rattle.cmm_program.specs.State.{Setting, Status, Store, Running, Waiting, Ended, Wrong}
+use Rattle.cmm_program.specs.Performing.{Transfer, Stay, Wait, Away, Over, perform}
+use Rattle.cmm_program.specs.State.{Setting, Store}
 use Rattle.cmm_program.specs.Todo.{if_way}
 use Rattle.cmm_program.specs.Values.{Value}
 use Rattle.cmm_program.specs.Writes.{put_all, reads_of}
@@ -20,15 +19,15 @@ use Rattle.cmm_graph.specs.declared.node.NodeKind.TheVariants.{Assign, Store as 
 use Rattle.cmm_graph.specs.declared.number.NodeId.{NodeId}
 use Rattle.cmm_graph.specs.declared.operand.Destination.{Destination}
 use Rattle.cmm_graph.specs.declared.operand.Destination.TheVariants as destination
-use Rattle.cmm_graph.specs.declared.operand.Rvalue.{Rvalue}
-use Rattle.cmm_hoist.specs.Keeping.{KindStandsFor}
-use Rattle.cmm_words.specs.declared.constant.Constant.{Constant}
-use Rattle.cmm_hoisted.proofs.Nodes.{IsBlind, kind_same}
-use Rattle.cmm_hoisted.proofs.Steps.{Stays, comes_to}
+use Rattle.cmm_rewriting.specs.Places.{comes_to, entry_cost}
+
+-- control stays in its activation, or the machine is wrong
+abbrev Stays : Tried Transfer → Type 0
+Stays (Ok (Stay way store)) = Unit {0}
+Stays (Ok _) = ⊥
+Stays (Err error) = Unit {0}
 
 module _ (s : Setting) (store : Store) where
-  -- ---- where control stays
-
   put_stays : (r : Tried Store) → Stays (and_then r (λ after. Ok (Stay 0 after)))
   put_stays (Ok after) = tt
   put_stays (Err error) = tt
@@ -53,7 +52,7 @@ module _ (s : Setting) (store : Store) where
   put_to_stays (destination.Temporary t) value = choice_stays (value (reads_of s store))
 
   -- a node that leads on
-  pub leading_stays : (c : Position) (kind : NodeKind) (n : NodeId) → led 0 kind ≡ Some n → Stays (comes_to s store (act_of (keeping c) kind))
+  leading_stays : (c : Position) (kind : NodeKind) (n : NodeId) → led 0 kind ≡ Some n → Stays (comes_to s store (act_of (keeping c) kind))
   leading_stays c (Assign to value next) n is = put_to_stays to (rvalue_value (held_by c.temporaries) value)
   leading_stays c (StoreNode width aligned address value next) n is =
       assign_stays (places_of (reads_of s store) (aim_at (keeping c) width aligned (operand_value (held_by c.temporaries) address) ∷ []))
@@ -66,39 +65,18 @@ module _ (s : Setting) (store : Store) where
   leading_stays c (Goto next) n is = tt
   leading_stays c kind n is = absurd (cc)
 
-  -- ---- events
+-- one that stays enters no procedure
+stays_free : (r : Tried Transfer) → Stays r → (t : Transfer) → r ≡ Ok t → (more : ℕ) → entry_cost more t ≡ 0
+stays_free (Ok (Stay way after)) stays t is more = let same : Stay way after ≡ t = cc in ap (entry_cost more) (sym same)
+stays_free (Ok (Wait after)) stays t is more = absurd stays
+stays_free (Ok (Away gone after landing)) stays t is more = absurd stays
+stays_free (Ok (Over gone after)) stays t is more = absurd stays
+stays_free (Err error) stays t is more = absurd (cc)
 
-  event_blind : (c : Position) (status : Status) → IsBlind (λ kind. event_at s status store (act_of (keeping c) kind))
-  event_blind c Running = record {
-    assigns = by;
-    stores = λ width aligned a b x y next. refl;
-    branches = λ t u then_ otherwise. refl;
-  }
-    where
-      by : (to : Destination) (v w : Rvalue) (next : NodeId) →
-          event_at s Running store (act_of (keeping c) (Assign to w next)) ≡ event_at s Running store (act_of (keeping c) (Assign to v next))
-      by (destination.Target target) v w next = refl
-      by (destination.Temporary t) v w next = refl
-  event_blind c (Waiting values) =
-      record { assigns = λ to v w next. refl; stores = λ width aligned a b x y next. refl; branches = λ t u then_ otherwise. refl }
-  event_blind c (Ended outcome) =
-      record { assigns = λ to v w next. refl; stores = λ width aligned a b x y next. refl; branches = λ t u then_ otherwise. refl }
-  event_blind c (Wrong error) =
-      record { assigns = λ to v w next. refl; stores = λ width aligned a b x y next. refl; branches = λ t u then_ otherwise. refl }
-
-  -- nor does it look at what temporaries hold
-  event_kept : (c d : Position) (status : Status) (kind : NodeKind) →
-      event_at s status store (act_of (keeping d) kind) ≡ event_at s status store (act_of (keeping c) kind)
-  event_kept c d Running (Assign (destination.Target target) value next) = refl
-  event_kept c d Running (Assign (destination.Temporary t) value next) = refl
-  event_kept c d Running (Host (PutByte value) next) = refl
-  event_kept c d Running (Host (GetByte to) next) = refl
-  event_kept c d Running kind = refl
-  event_kept c d (Waiting values) kind = refl
-  event_kept c d (Ended outcome) kind = refl
-  event_kept c d (Wrong error) kind = refl
-
-  pub event_same : (c d : Position) (status : Status) (first : ℕ) (kept : List Constant) (old new : NodeKind) → KindStandsFor first kept old new →
-      event_at s status store (act_of (keeping d) new) ≡ event_at s status store (act_of (keeping c) old)
-  event_same c d status first kept old new stands =
-      kind_same (λ kind. event_at s status store (act_of (keeping d) kind)) (event_blind d status) first kept old new stands ∙ event_kept c d status old
+pub leading_enters_nothing : (s : Setting) (store : Store) (c : Position) (kind : NodeKind) → is_some (led 0 kind) ≡ true → (t : Transfer) →
+    comes_to s store (act_of (keeping c) kind) ≡ Ok t → (more : ℕ) → entry_cost more t ≡ 0
+leading_enters_nothing s store c kind leads t is more = by (led 0 kind) refl leads
+  where
+    by : (o : Option NodeId) → led 0 kind ≡ o → is_some o ≡ true → entry_cost more t ≡ 0
+    by (Some n) there some = stays_free (comes_to s store (act_of (keeping c) kind)) (leading_stays s store c kind n there) t is more
+    by None there some = absurd (cc (some))
