@@ -1,6 +1,6 @@
 -- Two controls over the same store, where the second is what a pass makes of the first: at places that belong together both ask for the same, or the first asks for nothing
--- and comes nearer to where it does (textbook forward simulation with a measure, as in CompCert; RP, the abstract machine). What belongs together may depend on the store, as
--- what is known of variables at a node does.
+-- and comes nearer to where it does (textbook forward simulation with a measure, as in CompCert; Ramsey and Peyton Jones, PLDI 2000, the abstract machine). What belongs together
+-- may depend on the store, as what is known of variables at a node does.
 use Rattle.std.specs.Prelude.{◌≡◌, ◌⊎◌, ℕ, zero, suc, ◌+◌, ◌<◌, ◌≤◌, Ok, Some, None}
 use Rattle.cmm_machine_laws.specs.Observed.{event_at}
 use Rattle.cmm_program.specs.declared.procedure.Proc.{Proc}

@@ -8,6 +8,8 @@
 //! The theory is over all controls, as public lemmas of `proofs/Simulating` and `proofs/Following`; a pass is an instance, whose law is a contract.
 //!
 //! - `laws`: the C-- machine as the first instance.
+//! - `examples`: two small controls, with steps that are passed over and with a chain.
 #![tactic(auto)]
 
+pub mod examples;
 pub mod laws;
