@@ -25,7 +25,7 @@ use Rattle.cmm_graph.specs.GraphMachine.{graph_start}
 use Rattle.cmm_graph.specs.Laws.{OrderIsByReads, ValueIsByReads}
 use Rattle.cmm_graph.specs.declared.graph.Graph.{Graph}
 use Rattle.cmm_hoist.specs.Graphs.{IsHoistedFrom}
-use Rattle.cmm_flow.specs.Relation.{longest, longest_of}
+use Rattle.cmm_flow.specs.Relation.{longest}
 use Rattle.cmm_folded.specs.Flow.{IsFoldedFlow}
 use Rattle.cmm_folded.specs.Laws.{FoldedFlowsAreGraphs, FoldedFlowsFollow}
 use Rattle.cmm_hoisted.specs.Flow.{AreFlowsWithin, IsFlowWithin}
@@ -33,6 +33,7 @@ use Rattle.cmm_hoisted.specs.Laws.{AreCostsWithin, HoistedFlowsFollow}
 use Rattle.cmm_hoisted.proofs.Costs.{are_costs, are_rewriting_costs, cost_before}
 use Rattle.cmm_hoisted.proofs.Relation.{HasGraphs, Hoisted}
 use Rattle.cmm_hoisted.proofs.Rewritten.{are_rewritten}
+use Rattle.cmm_hoisted.proofs.Within.{longest_is}
 
 -- ---- the folded flows
 
@@ -78,10 +79,6 @@ folded_of most greatest [] (g ∷ graphs) all = absurd all
 folded_of most greatest (q ∷ procs) [] all = absurd all
 folded_of most greatest (q ∷ procs) (g ∷ graphs) all = and_folded most greatest q procs g graphs all.0 (folded_of most greatest procs graphs all.1)
 
-within_longest : (procs : List Proc) → bounds.longest procs ≤ longest_of procs
-within_longest [] = omega arith
-within_longest (q ∷ procs) = omega (arith, within_longest procs)
-
 -- ---- whole runs
 
 module _ (s : Setting) (graphs : List Graph) (input : List ℕ) (cost : State Position → ℕ) (within : AreFlowsWithin s.program graphs) (set : IsSetUp s)
@@ -106,7 +103,7 @@ module _ (s : Setting) (graphs : List Graph) (input : List ℕ) (cost : State Po
   ]
 
   enough : longest s.program + (most + r.chained) + r.chained ≤ longest s.program + longest s.program
-  enough = omega (arith, small, within_longest s.program.procs)
+  enough = omega (arith, small, longest_is s.program.procs)
 
   abbrev told : Machine (State Todo) ℕ Call Ending
   told = machine_of (todo_control s.program) s
@@ -129,7 +126,7 @@ module _ (s : Setting) (graphs : List Graph) (input : List ℕ) (cost : State Po
     -- what the C-- machine does, the folded flows do, and with the chain of `main` the hoisted ones
     follows : Follows told (λ _. longest s.program + longest s.program) (machine_of (graph_control graphs) s) cost (start s input) (graph_start graphs s input)
     follows =
-        let before = are_costs r most (omega (arith, small, within_longest s.program.procs)) in
+        let before = are_costs r most (omega (arith, small, longest_is s.program.procs)) in
         follows_scaled 1 (λ u. omega (arith, enough)) (λ u. omega arith)
         (follows_rewritten (are_rewritten r most by_values by_reads have_graphs) (are_rewriting_costs r costs) {H = λ st. Unit {0}}
         record { next = λ st is. tt; known = λ store c cs running is. tt } input tt

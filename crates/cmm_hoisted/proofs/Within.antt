@@ -9,7 +9,7 @@ use Rattle.cmm_hoisted.specs.Flow.{IsFlowWithin}
 use Rattle.cmm_hoisted.specs.Laws.{FlowsWithinAreFewer}
 
 -- both layers know the longest of some procedures
-longest_is : (procs : List Proc) → bounds.longest procs ≤ longest_of procs
+pub longest_is : (procs : List Proc) → bounds.longest procs ≤ longest_of procs
 longest_is [] = omega arith
 longest_is (q ∷ procs) = omega (arith, longest_is procs)
 

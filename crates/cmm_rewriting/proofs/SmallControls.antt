@@ -6,7 +6,8 @@ use Rattle.cmm_program.specs.Control.{Control}
 use Rattle.cmm_program.specs.State.{Setting, Store}
 use Rattle.cmm_program.specs.Todo.{todo_control}
 use Rattle.cmm_program.specs.Writes.{reads_of}
-use Rattle.cmm_rewriting.specs.Examples.{EntriesFollow, TicksArePassedOver, entering, ticked, ticks_left}
+use Rattle.cmm_simulation.specs.Ticking.{ticks_left}
+use Rattle.cmm_rewriting.specs.Examples.{EntriesFollow, TicksArePassedOver, entering, ticked}
 use Rattle.cmm_rewriting.specs.Places.{AreRewritten, BothGo, BothStay, GoesAlone}
 use Rattle.cmm_rewriting.proofs.Following.{rewritten_follows}
 use Rattle.cmm_rewriting.proofs.Simulating.{rewritten_simulates}

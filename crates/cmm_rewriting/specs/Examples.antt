@@ -8,6 +8,7 @@ use Rattle.cmm_program.specs.State.{Setting}
 use Rattle.cmm_program.specs.Todo.{todo_control}
 use Rattle.cmm_simulation.specs.Following.{Follows}
 use Rattle.cmm_simulation.specs.Simulation.{SimulatesLazily}
+use Rattle.cmm_simulation.specs.Ticking.{ticks_left}
 use Rattle.cmm_rewriting.specs.States.{TogetherAt}
 
 -- places come with whether their step is next; where it isn't, nothing is done first
@@ -33,11 +34,6 @@ module _ {C : Type 0} (m : Control C) where
     resume = λ n u. (m.resume n u.0, true);
     begin = λ n. (m.begin n, false);
   }
-
--- how many quiet steps are left
-abbrev pub ticks_left : Bool → ℕ
-ticks_left true = 0
-ticks_left false = 1
 
 -- the C-- machine passes over the quiet steps of one that makes one before each of its own
 abbrev pub TicksArePassedOver : Type 0
