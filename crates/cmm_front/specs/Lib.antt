@@ -1,3 +1,4 @@
 pub mod Sources
 pub mod Refusing
 pub mod Programs
+pub mod Laws

@@ -6,11 +6,13 @@
 //! - `program`: the call `program_of`, the passes in a row. `tokens`, `trees`: the tokens of all units, and their trees. `too_long`
 //!   answers the fault of units of which one is longer than a unit may be.
 //! - `fault`: why units have no program.
+//! - `laws`: units mean one program or have one fault, and never both.
 //!
 //! `specs/Sources` says what the bytes of units are, and `specs/Refusing` which fault is named.
 #![tactic(auto)]
 
 mod fault;
+pub mod laws;
 mod program;
 mod tokens;
 mod trees;
