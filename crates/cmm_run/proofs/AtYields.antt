@@ -1,5 +1,5 @@
 -- A yield, and the client's answer to it.
-use Rattle.std.proofs.Common.{◌≡◌, ℕ, ◌+◌, List, [], ◌++◌, Option, Some, None, Result, Ok, Err, refl, ap, sym, ◌∙◌, subst}
+use Rattle.std.proofs.Common.{inr, ◌≡◌, ℕ, ◌+◌, List, [], ◌++◌, Option, Some, None, Result, Ok, refl, ap, sym, ◌∙◌, subst}
 use Rattle.rv_table.specs.declared.request.Request.TheVariants.{Yield}
 use Rattle.rv_table.specs.Machine as rv
 use Rattle.rv_table.specs.Machine.{State, instruction_step}
@@ -11,7 +11,6 @@ use Rattle.cmm_program.specs.Commands.{Answer}
 use Rattle.cmm_image_machine.specs.Changes.{at_pc}
 use Rattle.cmm_image_machine.specs.Machine as image
 use Rattle.cmm_image_machine.specs.Machine.{Launch, Run, map_of, region_of, goes_on, step}
-use Rattle.cmm_walk.specs.Walking.{break_of}
 use Rattle.cmm_client.specs.declared.yielding.Left.{Left}
 use Rattle.cmm_client.specs.declared.yielding.Left.TheVariants as left
 use Rattle.cmm_client.specs.Yields.{IsLeft, at_yield, run_behind}
@@ -21,7 +20,6 @@ use Rattle.cmm_run.specs.declared.machine.Machine.{Machine}
 use Rattle.cmm_run.specs.declared.outcome.Outcome.{Outcome}
 use Rattle.cmm_run.specs.declared.outcome.Outcome.TheVariants as outcome
 use Rattle.cmm_run.specs.Outside.{Outside}
-use Rattle.cmm_run.specs.Runs.{ShowsFront}
 use Rattle.cmm_run.specs.inside.Turns.{IsAt, IsOver, Turns}
 use Rattle.cmm_run.specs.inside.Yields.{AnswersWith, ending_of}
 use Rattle.cmm_run.proofs.Moving.{moved, moves_end}
@@ -56,6 +54,11 @@ logged : (to : client.Left State State) (run : Run) → (image.left to run).log 
 logged (client.Running s) run = refl
 logged (client.Stopped s) run = refl
 logged (client.Torn b s) run = refl
+
+kept_input : (to : client.Left State State) (run : Run) → (image.left to run).input ≡ run.input
+kept_input (client.Running s) run = refl
+kept_input (client.Stopped s) run = refl
+kept_input (client.Torn b s) run = refl
 
 put_out : (to : client.Left State State) (run : Run) → (image.left to run).output ≡ run.output
 put_out (client.Running s) run = refl
@@ -98,10 +101,14 @@ module _ {Sink : Type 0} (taken : Sink → Option (List ℕ)) (faults : Sink →
         shown = record { output = output_shown; log = log_shown text answers.1 };
       }
   turn_by text to (Some outcome.OutputFault) is answers =
-      let here : Run = record (goes_on run) { log = run.log ++ text } in record {
-        output = subst (AppendsFront start.output after.output) (sym (ap (λ (r : Run). r.output) is ∙ put_out to here)) (whole_front start.output after.output run.output output_shown);
-        log = subst (AppendsFront start.log after.log) (sym (ap (λ (r : Run). r.log) is ∙ logged to here))
-            (appends_then_front start.log before.log after.log run.log text at.written.log (rw (was, is_now) answers.0));
+      let here : Run = record (goes_on run) { log = run.log ++ text } in
+      inr record {
+        input = ap (λ (r : Run). r.input) is ∙ kept_input to here ∙ at.input;
+        front = record {
+          output = subst (AppendsFront start.output after.output) (sym (ap (λ (r : Run). r.output) is ∙ put_out to here)) (whole_front start.output after.output run.output output_shown);
+          log = subst (AppendsFront start.log after.log) (sym (ap (λ (r : Run). r.log) is ∙ logged to here))
+              (appends_then_front start.log before.log after.log run.log text at.written.log (rw (was, is_now) answers.0));
+        };
       }
   turn_by text to (Some (outcome.Done value)) is answers = absurd answers
   turn_by text to (Some outcome.StackLimit) is answers = absurd answers

@@ -14,7 +14,7 @@ use Rattle.cmm_image_machine.proofs.Shared.{bare, yielding}
 use Rattle.cmm_run.specs.declared.outcome.Outcome.{Outcome}
 use Rattle.cmm_run.specs.declared.outcome.Outcome.TheVariants.{Done, Stopped, StepLimit, Trap, InputFault, OutputFault, Torn}
 use Rattle.cmm_run.specs.Outside.{Outside}
-use Rattle.cmm_run.specs.Runs.{Comes, Fails, Runs}
+use Rattle.cmm_run.specs.Runs.{Comes, Fails, FailsAt, Runs}
 
 -- an image whose script has no block
 abbrev quiet : ImageParts → Launch
@@ -30,13 +30,14 @@ RunsOf l steps input before after outcome = Runs l steps before after outcome (i
 
 -- the input that there is
 runs : (l : Launch) (steps : ℕ) (input : List ℕ) (before after : Outside) (outcome : Outcome) → before.input ≡ Some input → Fails before after outcome →
-    Comes l steps input before after outcome → RunsOf l steps input before after outcome
-runs l steps input before after outcome is fails comes = record {
+    (outcome ≡ OutputFault → FailsAt l steps input before after) → Comes l steps input before after outcome → RunsOf l steps input before after outcome
+runs l steps input before after outcome is fails failed comes = record {
   fails = fails;
   input = input;
   told = subst (λ (t : Option (List ℕ)). IfSome t (λ left. left ≡ input)) (sym is) refl;
   bytes = λ none. absurd (cc (none, is));
   comes = comes;
+  failed = failed;
   stopped = λ _. refl;
 }
 
@@ -44,7 +45,7 @@ runs l steps input before after outcome is fails comes = record {
 stops :
     RunsOf (quiet yielding) 300 (9 ∷ []) (outside (9 ∷ []) (1 ∷ []) []) (outside (9 ∷ []) (1 ∷ []) (codes "yield 20 7" ++ 10 ∷ [])) Stopped
 unfolding Fmt.digits
-stops = runs (quiet yielding) 300 (9 ∷ []) _ _ Stopped refl (record { input = refl; output = refl; log = refl })
+stops = runs (quiet yielding) 300 (9 ∷ []) _ _ Stopped refl (record { input = refl; output = refl; log = refl }) (λ is. absurd (cc is))
     (record { answer = refl; shows = record { input = refl; output = refl; log = refl } })
 
 -- the block of 20 gives main's first variable 50 where leaf has saved it, and lets leaf return: 7 + 407 + 50
@@ -60,13 +61,14 @@ answered = record {
 goes_on :
     RunsOf answered 300 [] (outside [] [] []) (outside [] [] (flat_map line (codes "yield 20 7" ∷ codes "at main site 0" ∷ codes "ok" ∷ codes "resume" ∷ []))) (Done 464)
 unfolding Fmt.digits
-goes_on = runs answered 300 [] _ _ (Done 464) refl (record { input = refl; output = refl; log = refl })
+goes_on = runs answered 300 [] _ _ (Done 464) refl (record { input = refl; output = refl; log = refl }) (λ is. absurd (cc is))
     (record { answer = refl; shows = record { input = refl; output = refl; log = refl } })
 
 -- the log fails behind the first 5 bytes of the yield's line
 logs_a_front : RunsOf answered 300 [] (outside [] [] []) record (outside [] [] (codes "yield")) { log_faults = 1 } OutputFault
 unfolding Fmt.digits
 logs_a_front = runs answered 300 [] _ _ OutputFault refl (record { input = refl; output = inr (refl, inl (lit< tt)) })
+    (λ _. record { moment = 300; within = lit≤ tt; left = refl; shows = record { output = (0, lit≤ tt, refl); log = (5, lit≤ tt, refl) } })
     (record { output = (0, lit≤ tt, refl); log = (5, lit≤ tt, refl) })
 
 -- it puts A, takes a byte, and ends with it
@@ -74,38 +76,39 @@ abbrev taking : Launch
 taking = quiet (bare (Addi 5 0 (pos 1) ∷ Addi 10 0 (pos 65) ∷ Ecall ∷ Addi 5 0 (pos 2) ∷ Ecall ∷ Addi 5 0 (pos 5) ∷ Ecall ∷ []))
 
 ends : RunsOf taking 7 (7 ∷ 8 ∷ []) (outside (7 ∷ 8 ∷ []) [] []) (outside (8 ∷ []) (65 ∷ []) []) (Done 7)
-ends = runs taking 7 (7 ∷ 8 ∷ []) _ _ (Done 7) refl (record { input = refl; output = refl; log = refl })
+ends = runs taking 7 (7 ∷ 8 ∷ []) _ _ (Done 7) refl (record { input = refl; output = refl; log = refl }) (λ is. absurd (cc is))
     (record { answer = refl; shows = record { input = refl; output = refl; log = refl } })
 
 -- with one instruction less it does not end
 is_limited : RunsOf taking 6 (7 ∷ 8 ∷ []) (outside (7 ∷ 8 ∷ []) [] []) (outside (8 ∷ []) (65 ∷ []) []) StepLimit
-is_limited = runs taking 6 (7 ∷ 8 ∷ []) _ _ StepLimit refl (record { input = refl; output = refl; log = refl })
+is_limited = runs taking 6 (7 ∷ 8 ∷ []) _ _ StepLimit refl (record { input = refl; output = refl; log = refl }) (λ is. absurd (cc is))
     (record { answer = refl; shows = record { input = refl; output = refl; log = refl } })
 
 -- at the end of the input the byte is all ones
 ends_at_the_end : RunsOf taking 7 [] (outside [] [] []) (outside [] (65 ∷ []) []) (Done 0xFFFFFFFFFFFFFFFF)
-ends_at_the_end = runs taking 7 [] _ _ (Done 0xFFFFFFFFFFFFFFFF) refl (record { input = refl; output = refl; log = refl })
+ends_at_the_end = runs taking 7 [] _ _ (Done 0xFFFFFFFFFFFFFFFF) refl (record { input = refl; output = refl; log = refl }) (λ is. absurd (cc is))
     (record { answer = refl; shows = record { input = refl; output = refl; log = refl } })
 
 -- the byte can't be taken, after the fourth instruction
 takes_none : RunsOf taking 7 (7 ∷ []) (outside (7 ∷ []) [] []) record (outside (7 ∷ []) (65 ∷ []) []) { input_faults = 1 } InputFault
-takes_none = runs taking 7 (7 ∷ []) _ _ InputFault refl (record { input = inl (lit< tt); output = refl; log = refl })
+takes_none = runs taking 7 (7 ∷ []) _ _ InputFault refl (record { input = inl (lit< tt); output = refl; log = refl }) (λ is. absurd (cc is))
     (4, lit< tt, record { running = refl; asks = refl }, record { input = refl; output = refl; log = refl })
 
--- A can't be put
-puts_none : RunsOf taking 7 (7 ∷ []) (outside (7 ∷ []) [] []) record (outside [] [] []) { output_faults = 1 } OutputFault
+-- A can't be put, and nothing is taken
+puts_none : RunsOf taking 7 (7 ∷ []) (outside (7 ∷ []) [] []) record (outside (7 ∷ []) [] []) { output_faults = 1 } OutputFault
 puts_none = runs taking 7 (7 ∷ []) _ _ OutputFault refl (record { input = refl; output = inl (inl (lit< tt), refl) })
+    (λ _. record { moment = 3; within = lit≤ tt; left = refl; shows = record { output = (0, lit≤ tt, refl); log = (0, lit≤ tt, refl) } })
     (record { output = (0, lit≤ tt, refl); log = (0, lit≤ tt, refl) })
 
 -- behind its only instruction there is no code
 traps : RunsOf (quiet (bare (Addi 5 0 (pos 1) ∷ []))) 9 [] (outside [] [] []) (outside [] [] []) (Trap record { kind = BadTarget; pc = 0x10004 })
-traps = runs (quiet (bare (Addi 5 0 (pos 1) ∷ []))) 9 [] _ _ (Trap record { kind = BadTarget; pc = 0x10004 }) refl (record { input = refl; output = refl; log = refl })
+traps = runs (quiet (bare (Addi 5 0 (pos 1) ∷ []))) 9 [] _ _ (Trap record { kind = BadTarget; pc = 0x10004 }) refl (record { input = refl; output = refl; log = refl }) (λ is. absurd (cc is))
     (record { answer = refl; shows = record { input = refl; output = refl; log = refl } })
 
 -- it yields, and no site has the return address 0
 tears : RunsOf (quiet (bare (Addi 5 0 (pos 3) ∷ Ecall ∷ []))) 9 [] (outside [] [] []) (outside [] [] []) (Torn record { frame = 0x60002000; address = 0 })
 tears = runs (quiet (bare (Addi 5 0 (pos 3) ∷ Ecall ∷ []))) 9 [] _ _ (Torn record { frame = 0x60002000; address = 0 }) refl
-    (record { input = refl; output = refl; log = refl }) (record { answer = refl; shows = record { input = refl; output = refl; log = refl } })
+    (record { input = refl; output = refl; log = refl }) (λ is. absurd (cc is)) (record { answer = refl; shows = record { input = refl; output = refl; log = refl } })
 
 -- ---- an input that tells nothing, as a terminal
 
@@ -121,5 +124,6 @@ gives_a_byte = record {
   told = tt;
   bytes = λ _. All-cons (λ (byte : ℕ). byte < 256) 7 [] (lit< tt) (All-nil (λ (byte : ℕ). byte < 256));
   comes = record { answer = refl; shows = record { input = tt; output = refl; log = refl } };
+  failed = λ is. absurd (cc is);
   stopped = λ _. refl;
 }

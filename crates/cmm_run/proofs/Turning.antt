@@ -1,5 +1,5 @@
 -- One turn of a run, by what its instruction comes to.
-use Rattle.std.proofs.Common.{◌≡◌, ◌≢◌, ℕ, ◌<◌, ◌+◌, Bool, List, [], ◌∷◌, ◌++◌, drop, length, Option, Some, None, inl, inr, refl, ap, sym, ◌∙◌, subst, arith}
+use Rattle.std.proofs.Common.{◌≡◌, ◌≢◌, ◌⊎◌, ℕ, ◌<◌, ◌+◌, Bool, List, [], ◌∷◌, ◌++◌, drop, length, Option, Some, None, inl, inr, refl, ap, sym, ◌∙◌, subst, arith}
 use Rattle.std.proofs.lemmas.List.Elements.{All-nil}
 use Rattle.std.proofs.lemmas.List.{take_all}
 use Rattle.cmm_abi.specs.declared.registers.TheConstants.{REQUEST_VALUE}
@@ -11,8 +11,6 @@ use Rattle.rv_table.specs.Machine.{State, MemoryMap, instruction_step, with_set}
 use Rattle.rv_sim.specs.declared.event.Event.TheVariants as event
 use Rattle.rv_sim.specs.Stepping.{event_of, outcome_of}
 use Rattle.cmm_outside.specs.Output.{Appends, AppendsFront}
-use Rattle.cmm_report.proofs.Shared.{front_longer}
-use Rattle.cmm_image_machine.proofs.Shared.{step_grows}
 use Rattle.cmm_program.specs.Performing.{next_byte}
 use Rattle.cmm_program.specs.State as c
 use Rattle.cmm_image_machine.specs.Changes.{at_pc}
@@ -24,9 +22,9 @@ use Rattle.cmm_run.specs.declared.machine.Machine.{Machine}
 use Rattle.cmm_run.specs.declared.outcome.Outcome.{Outcome}
 use Rattle.cmm_run.specs.declared.outcome.Outcome.TheVariants as outcome
 use Rattle.cmm_run.specs.Outside.{Outside}
-use Rattle.cmm_run.specs.Runs.{ShowsFront, answer_of}
+use Rattle.cmm_run.specs.Runs.{answer_of}
 use Rattle.cmm_run.specs.inside.Takes.{HasTaken, Takes}
-use Rattle.cmm_run.specs.inside.Turns.{HasTurned, IsAt, IsOver, IsWritten, LacksInput, Turns}
+use Rattle.cmm_run.specs.inside.Turns.{HasTurned, IsAt, IsOver, IsWritten, LacksInput, LacksOutput, Turns}
 use Rattle.cmm_run.specs.inside.Waits.{Closes, Moves}
 use Rattle.cmm_run.proofs.Moving.{moved, moves_all, moves_end, moves_front, moves_more}
 
@@ -103,10 +101,13 @@ module _ {Sink : Type 0} (taken : Sink → Option (List ℕ)) (faults : Sink →
         };
       })
   closes_turn l start next left run stands over answer input written log (inr (same, front, _)) =
-      subst (λ (o : Outcome). Turns l start after next left run (Some o)) (sym same) record {
-        output = moves_front start.output before.output after.output (step l run).output waiting written.output (rw (was, is) front);
-        log = whole_front start.log after.log (step l run).log (subst (λ (told : Option (List ℕ)). Appends start.log told (step l run).log) (sym log) written.log);
-      }
+      subst (λ (o : Outcome). Turns l start after next left run (Some o)) (sym same) (inr record {
+        input = input;
+        front = record {
+          output = moves_front start.output before.output after.output (step l run).output waiting written.output (rw (was, is) front);
+          log = whole_front start.log after.log (step l run).log (subst (λ (told : Option (List ℕ)). Appends start.log told (step l run).log) (sym log) written.log);
+        };
+      })
 
 module _ {Sink : Type 0} (taken : Sink → Option (List ℕ)) (faults : Sink → ℕ) (old new : Sink) (l : Launch) (start before after : Outside) (machine next : Machine)
     (left : List ℕ) (run : Run) (at : IsAt machine start before left run) (was : before.output ≡ taken old) (is : after.output ≡ taken new)
@@ -171,16 +172,14 @@ put_turn l start before after machine next left run byte at asks state output lo
 
 -- what waits could not be written before an instruction
 pub write_fails : (l : Launch) (start before after : Outside) (machine : Machine) (left : List ℕ) (run : Run) → IsAt machine start before left run →
-    AppendsFront before.output after.output machine.waiting → after.log ≡ before.log → ShowsFront start after (step l run)
-write_fails l start before after machine left run at output log =
-    let more = (step_grows l run).seen in record {
-      output = subst (λ (xs : List ℕ). AppendsFront start.output after.output xs) (sym more.output.whole)
-          (front_longer start.output after.output run.output more.output.rest
-          (moves_front start.output before.output after.output run.output machine.waiting at.written.output output));
-      log = subst (λ (xs : List ℕ). AppendsFront start.log after.log xs) (sym more.log.whole)
-          (front_longer start.log after.log run.log more.log.rest
-          (whole_front start.log after.log run.log (subst (λ (told : Option (List ℕ)). Appends start.log told run.log) (sym log) at.written.log)));
-    }
+    AppendsFront before.output after.output machine.waiting → after.log ≡ before.log → LacksOutput start after left run ⊎ LacksOutput start after left (step l run)
+write_fails l start before after machine left run at output log = inl record {
+  input = at.input;
+  front = record {
+    output = moves_front start.output before.output after.output run.output machine.waiting at.written.output output;
+    log = whole_front start.log after.log run.log (subst (λ (told : Option (List ℕ)). Appends start.log told run.log) (sym log) at.written.log);
+  };
+}
 
 -- what waits is written before an instruction
 pub written_at : (start before after : Outside) (machine next : Machine) (left : List ℕ) (run : Run) → IsAt machine start before left run → next.program ≡ machine.program →

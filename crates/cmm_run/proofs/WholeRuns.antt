@@ -1,5 +1,5 @@
 -- Whole runs, turn by turn.
-use Rattle.std.proofs.Common.{◌≡◌, ℕ, suc, ◌+◌, ◌<◌, Bool, true, List, [], ◌++◌, Option, Some, None, IfSome, inl, inr, ap, refl, sym, ◌∙◌, subst, arith, append-nil, append_assoc}
+use Rattle.std.proofs.Common.{◌≡◌, ℕ, suc, ◌+◌, ◌<◌, Bool, List, [], ◌++◌, Option, Some, None, IfSome, inl, inr, ap, refl, sym, ◌∙◌, subst, arith, append-nil, append_assoc}
 use Rattle.std.specs.List.{All}
 use Rattle.std.proofs.lemmas.List.Elements.{All-nil, All-append}
 use Rattle.rv_table.specs.Machine.{State}
@@ -10,10 +10,10 @@ use Rattle.cmm_run.specs.declared.machine.Machine.{Machine}
 use Rattle.cmm_run.specs.declared.outcome.Outcome.{Outcome}
 use Rattle.cmm_run.specs.declared.outcome.Outcome.TheVariants.{Done, Stopped, StackLimit, StepLimit, Trap, InputFault, OutputFault, Torn}
 use Rattle.cmm_run.specs.Outside.{Outside, NoneFailed}
-use Rattle.cmm_run.specs.Runs.{Comes, Ends, Fails, Runs, ShowsFront, answer_of}
+use Rattle.cmm_run.specs.Runs.{Comes, Ends, Fails, FailsAt, Runs, ShowsFront, answer_of}
 use Rattle.cmm_run.specs.inside.Loading.{IsReady}
-use Rattle.cmm_run.specs.inside.Takes.{HasTaken, MayBeLeft}
-use Rattle.cmm_run.specs.inside.Turns.{HasTurned, IsAt, IsOver, IsShown, TurnFails, Turns}
+use Rattle.cmm_run.specs.inside.Takes.{MayBeLeft}
+use Rattle.cmm_run.specs.inside.Turns.{HasTurned, IsAt, IsOver, TurnFails, Turns}
 use Rattle.cmm_run.specs.inside.Waits.{Closes}
 use Rattle.cmm_run.proofs.Moving.{moves_all, moves_front}
 use Rattle.cmm_run.proofs.Turning.{whole_front}
@@ -183,8 +183,30 @@ module _ (l : Launch) (start now : Outside) (machine : Machine) (input left : Li
     turned.before,
     record { input = left_told (image_after l input count) turned.input; output = turned.shown.output; log = turned.shown.log },
   )
-  comes OutputFault turned = front_until l input start now (suc count) limit (omega arith)
-      (rw (step_last l input count) turned)
+  comes OutputFault (inl before) = front_until l input start now count limit (omega (arith, below)) before.front
+  comes OutputFault (inr behind) = front_until l input start now (suc count) limit (omega arith) (rw (step_last l input count) behind.front)
+
+  failed : (o : Outcome) → Turns l start now machine left (image_after l input count) (Some o) → o ≡ OutputFault → FailsAt l limit input start now
+  failed OutputFault (inl before) is = record {
+    moment = count;
+    within = omega (arith, below);
+    left = left_told (image_after l input count) before.input;
+    shows = before.front;
+  }
+  failed OutputFault (inr behind) is =
+      let last = step_last l input count in record {
+        moment = suc count;
+        within = omega (arith, below);
+        left = left_told (image_after l input (suc count)) (subst (λ (run : Run). run.input ≡ left) (sym last) behind.input);
+        shows = subst (ShowsFront start now) (sym last) behind.front;
+      }
+  failed (Done value) turned is = absurd (cc is)
+  failed Stopped turned is = absurd (cc is)
+  failed StackLimit turned is = absurd (cc is)
+  failed StepLimit turned is = absurd (cc is)
+  failed (Trap t) turned is = absurd (cc is)
+  failed (Torn t) turned is = absurd (cc is)
+  failed InputFault turned is = absurd (cc is)
 
   stands : (o : Outcome) → Turns l start now machine left (image_after l input count) (Some o) → o ≡ Stopped →
       (image_after l input limit).machine ≡ state_of machine.program
@@ -213,6 +235,7 @@ run_over l start mid now machine next count limit outcome (Some other) is below 
       told = input.told;
       bytes = input.bytes;
       comes = comes l start now next (taken ++ input.left) input.left count limit below input.now_is other turns;
+      failed = failed l start now next (taken ++ input.left) input.left count limit below input.now_is other turns;
       stopped = stands l start now next (taken ++ input.left) input.left count limit below input.now_is other turns;
     }
 
@@ -244,8 +267,8 @@ module _ {Sink : Type 0} (taken : Sink → Option (List ℕ)) (faults : Sink →
     };
   }
 
-  failed : AppendsFront before.output after.output machine.waiting → ShowsFront start after (image_after l whole limit)
-  failed front = record {
+  shows_front : AppendsFront before.output after.output machine.waiting → ShowsFront start after (image_after l whole limit)
+  shows_front front = record {
     output = moves_front start.output before.output after.output (image_after l whole limit).output machine.waiting stands_at.written.output front;
     log = whole_front start.log after.log (image_after l whole limit).log
         (subst (λ (had : Option (List ℕ)). Appends start.log had (image_after l whole limit).log) (sym log) stands_at.written.log);
@@ -260,6 +283,7 @@ module _ {Sink : Type 0} (taken : Sink → Option (List ℕ)) (faults : Sink →
     told = found.told;
     bytes = found.bytes;
     comes = limited (rw (was, is) appended);
+    failed = λ e. absurd (cc e);
     stopped = λ e. absurd (cc e);
   }
   run_limited had has in_same log_same result (inr (same, front, rose)) = subst (λ (x : Outcome). Runs l limit start after x state) (sym same) record {
@@ -270,6 +294,7 @@ module _ {Sink : Type 0} (taken : Sink → Option (List ℕ)) (faults : Sink →
     input = whole;
     told = found.told;
     bytes = found.bytes;
-    comes = failed (rw (was, is) front);
+    comes = shows_front (rw (was, is) front);
+    failed = λ _. record { moment = limit; within = omega arith; left = input_told; shows = shows_front (rw (was, is) front) };
     stopped = λ e. absurd (cc e);
   }

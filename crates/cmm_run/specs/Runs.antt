@@ -1,5 +1,5 @@
 -- What a run comes to: what it writes, takes and answers.
-use Rattle.std.specs.Prelude.{◌≡◌, ℕ, ◌<◌, List, IfSome, Some, None}
+use Rattle.std.specs.Prelude.{◌≡◌, ℕ, ◌<◌, ◌≤◌, List, IfSome, Some, None}
 use Rattle.std.specs.List.{All}
 use Rattle.rv_table.specs.declared.request.Request.TheVariants.{GetByte}
 use Rattle.rv_table.specs.Machine as rv
@@ -66,6 +66,13 @@ Fails before after StepLimit = NoneFailed before after
 Fails before after (Trap t) = NoneFailed before after
 Fails before after (Torn t) = NoneFailed before after
 
+-- Where output or log failed, that was at some moment of the run: the two got a front of what was written by then, and the input has left what the run had then.
+pub record FailsAt (l : Launch) (steps : ℕ) (input : List ℕ) (before after : Outside) : Type 0 where
+  pub moment : ℕ
+  pub within : moment ≤ steps
+  pub left : IfSome before.input (λ _. after.input ≡ Some (image_after l input moment).input)
+  pub shows : ShowsFront before after (image_after l input moment)
+
 -- A run of an image within n instructions has this outcome: it is what the definition says of some input. That is the input that there is, where it tells its
 -- bytes; another one, as a terminal, has given just the bytes of this input that the run took. A run that the client stopped stands in this state.
 pub record Runs (l : Launch) (steps : ℕ) (before after : Outside) (outcome : Outcome) (machine : rv.State) : Type 0 where
@@ -74,4 +81,5 @@ pub record Runs (l : Launch) (steps : ℕ) (before after : Outside) (outcome : O
   pub told : IfSome before.input (λ left. left ≡ input)
   pub bytes : before.input ≡ None → All (λ byte. byte < 256) input
   pub comes : Comes l steps input before after outcome
+  pub failed : outcome ≡ OutputFault → FailsAt l steps input before after
   pub stopped : outcome ≡ Stopped → (image_after l input steps).machine ≡ machine

@@ -1,5 +1,5 @@
 -- What one turn of a run comes to.
-use Rattle.std.specs.Prelude.{◌≡◌, ◌≢◌, ℕ, Bool, List, ◌++◌, Option, Some, None}
+use Rattle.std.specs.Prelude.{◌≡◌, ◌≢◌, ◌⊎◌, ℕ, Bool, List, ◌++◌, Option, Some, None}
 use Rattle.cmm_outside.specs.Output.{Appends}
 use Rattle.cmm_image_machine.specs.Machine.{Launch, Run, Running, step}
 use Rattle.cmm_client.specs.Stops.{state_of}
@@ -41,11 +41,16 @@ pub record LacksInput (l : Launch) (start now : Outside) (left : List ℕ) (run 
   pub input : run.input ≡ left
   pub shown : IsShown start now run
 
+-- output or log got a front of what this run has written
+pub record LacksOutput (start now : Outside) (left : List ℕ) (run : Run) : Type 0 where
+  pub input : run.input ≡ left
+  pub front : ShowsFront start now run
+
 -- After a turn the run goes on, or it ended, from this run on, with this input that is left. Where the client stopped it, the state is as it was left.
 abbrev pub Turns : Launch → Outside → Outside → Machine → List ℕ → Run → Option Outcome → Type 0
 Turns l start now machine left run None = IsAt machine start now left (step l run)
 Turns l start now machine left run (Some InputFault) = LacksInput l start now left run
-Turns l start now machine left run (Some OutputFault) = ShowsFront start now (step l run)
+Turns l start now machine left run (Some OutputFault) = LacksOutput start now left run ⊎ LacksOutput start now left (step l run)
 Turns l start now machine left run (Some (Done value)) = IsOver start now left (step l run) (Done value)
 Turns l start now machine left run (Some Stopped) = IsOver start now left (step l run) Stopped × ((step l run).machine ≡ state_of machine.program)
 Turns l start now machine left run (Some StackLimit) = IsOver start now left (step l run) StackLimit
