@@ -5,4 +5,5 @@ mod Finding
 mod Samples
 mod RunRows
 mod EventRows
+mod Versions
 pub mod Shared

@@ -5,3 +5,4 @@ pub mod Machine
 pub mod Observed
 pub mod Laws
 pub mod Tables
+pub mod Versions

@@ -1,5 +1,6 @@
 //! Laws of runs and of chains: each is the contract of a function that does nothing.
 ghost use Rattle.cmm_image_machine.specs.Laws.{ChainGoesOn, ElementsFit, EndsOnce, ImagesKeepFrames, ImagesLast, InputIsKept, OverStays, RunGrows, RunsAreTheMachine, SitesAreFound, StepGrows, WalkReadsTheStack};
+ghost use Rattle.cmm_image_machine.specs.Versions.{MigratedImagesRunSo, MigratedImagesWalkSo, VersionsRunSo, VersionsWalkSo};
 
 /// A run that is over stays as it is.
 #[tactic(auto, using(crate::proofs::Growing::over_stays))]
@@ -47,3 +48,13 @@ pub fn activations_fit()
 pub fn walks_read_the_stack()
     ensures { WalkReadsTheStack }
 {}
+
+/// What an image does depends on its tables, and not on the version of the format: an image that is migrated runs as it did, and has the walks that it had.
+pub fn versions_do_not_matter()
+    ensures runs { VersionsRunSo }
+    ensures walks { VersionsWalkSo }
+    ensures migrated_runs { MigratedImagesRunSo }
+    ensures migrated_walks { MigratedImagesWalkSo }
+{
+    cmm_image::laws::bytes_mean_one_thing();
+}
