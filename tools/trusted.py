@@ -1,9 +1,16 @@
 #!/usr/bin/env python3
 """The definitions that a reader of the headline has to read: trusted.py [--write]
 
-Prints the files of specs/ to which the contract of `cmm_main` and the laws of `cmm_top_laws` come down, in the order in which to read them (each behind those that it
-names, crate by crate as in crates.txt), with their lines and their first sentence. `--write` puts that table into docs/PROOFS.md, between its two marks;
-tools/pages.py tests that it is the table of today.
+Prints the files of specs/ to which public contracts come down, in the order in which to read them (each behind those that it names, crate by crate as in crates.txt),
+with their lines and their first sentence, and on which of three lists each stands:
+
+- A, what the agreement of an image with units stands on: `Agree` of cmm_compile;
+- M, what the main law stands on: `exec_is_the_machine` of cmm_top_laws;
+- the whole, what the contracts of the program (`cmm_main` of cmm_top, `run` of cmm), of the devices that it is over (the traits of cmm_outside) and all laws of
+  cmm_top_laws stand on.
+
+A list begins with what these clauses name, by the lines `ghost use` of their files, and goes on along the lines `use` of files. `--write` puts the numbers and the table
+into docs/PROOFS.md, between their marks; tools/pages.py tests that they are those of today.
 """
 
 import os
@@ -12,9 +19,20 @@ import sys
 
 TOP = os.path.dirname(os.path.dirname(os.path.abspath(__file__)))
 PAGE = "docs/PROOFS.md"
+NUMBERS = ("<!-- lines to read -->\n", "<!-- end of the lines -->\n")
 MARKS = ("<!-- files of the headline -->\n", "<!-- end of the files -->\n")
-ROOTS = ["crates/cmm_top/specs/Answers.antt", "crates/cmm_top_laws/specs/Laws.antt"]
-IMPORT = re.compile(r"^(?:pub )?use Rattle\.([\w.]+?)(?:\.?\{[^}]*\})?$", re.M)
+IMPORT = re.compile(r"^(?:(?:ghost|pub) )?use Rattle\.([\w.]+?)(?:\.?\{([^}]*)\})?(?: as (\w+))?;?$", re.M)
+# where a list begins: the heads of items, by file; None for all of a file
+AGREE = {"crates/cmm_compile/specs/Agreement.antt": None}
+MACHINE = {"crates/cmm_top_laws/specs/Laws.antt": ["abbrev pub ExecIsTheMachine "]}
+WHOLE = {
+    "crates/cmm_outside/src/storage.rt": ["pub trait Files "],
+    "crates/cmm_outside/src/input.rt": ["pub trait Source "],
+    "crates/cmm_outside/src/output.rt": ["pub trait Sink "],
+    "crates/cmm_top/src/top.rt": ["pub fn cmm_main"],
+    "crates/cmm_top_laws/src/laws.rt": ["pub fn "],
+    "crates/cmm/src/main.rt": ["fn run"],
+}
 
 
 def text_of(path):
@@ -36,24 +54,60 @@ def file_of(module):
     return f"crates/{crate}/src/lib.rt" if folder == "src" else None
 
 
-def files():
-    """The files of definitions in the order of reading, and those of the types that they name."""
+def imports(path):
+    """What a file imports: for each line the module, and the names by which the file knows what comes of it."""
+    for module, names, alias in IMPORT.findall(text_of(path)):
+        yield module, [alias or module.split(".")[-1]] if not names else [it.split(" as ")[-1].strip().strip("◌") for it in names.split(",")]
+
+
+def items_of(path, heads):
+    """The texts of the items of a file that begin so: each with the lines behind its head that are indented, are braces, or define it."""
+    kept, found = False, []
+    for line in text_of(path).splitlines():
+        if line and not line[0].isspace() and line[0] not in "(){}":
+            names = [head.split()[-1] for head in heads]
+            kept = line.startswith(tuple(heads)) or kept and line.startswith(tuple(f"{it} " for it in names))
+        if kept:
+            found.append(line)
+    return "\n".join(found)
+
+
+def named_by(path, heads):
+    """The modules that these items of a file name."""
+    text = items_of(path, heads)
+    for module, names in imports(path):
+        if any(re.search(rf"(?<!\w){re.escape(it)}(?!\w)", text) for it in names):
+            yield module
+
+
+def files(*roots):
+    """The files of definitions in the order of reading, from the items with these heads in these files, and those of the types that they name."""
     order, types, seen = [], set(), set()
 
-    def visit(path):
-        if path in seen:
-            return
-        seen.add(path)
-        for module in IMPORT.findall(text_of(path)):
+    def follow(modules):
+        for module in modules:
             found = file_of(module)
             if found and found.endswith(".rt"):
                 types.add(found)
             elif found:
                 visit(found)
+
+    def visit(path):
+        if path in seen:
+            return
+        seen.add(path)
+        follow(module for module, _ in imports(path))
         order.append(path)
 
-    for root in ROOTS:
-        visit(root)
+    for of in roots or (WHOLE,):
+        for path, heads in of.items():
+            if heads is None:
+                visit(path)
+            else:
+                follow(named_by(path, heads))
+                if path.endswith(".antt") and path not in seen:
+                    seen.add(path)
+                    order.append(path)
     crates = [line.split(":")[0] for line in text_of("crates.txt").splitlines() if re.match(r"[a-z]", line)]
     return sorted(order, key=lambda path: crates.index(path.split("/")[1])), sorted(types)
 
@@ -69,22 +123,38 @@ def sentence_of(path):
     return (found[1] if found else " ".join(lines)).replace("|", "\\|")
 
 
+def lines_in(paths):
+    return sum(text_of(it).count("\n") for it in paths)
+
+
+def numbers():
+    """How much there is to read of each list."""
+    for name, what, of in [
+        ("A", "what it means that an image agrees with units (`Agree`)", (AGREE,)),
+        ("M", "what `exec_is_the_machine` says", (MACHINE,)),
+        ("the whole", "all that the contracts of `cmm_main` and `run`, of the devices and of the laws say", ()),
+    ]:
+        order, types = files(*of)
+        yield f"- {name}, {what}: {len(order)} files, {lines_in(order):,} lines with their comments, and types in {len(types)} files of `src/`."
+
+
 def table():
-    order, types = files()
-    lines = {path: text_of(path).count("\n") for path in [*order, *types]}
-    yield f"{len(order)} files of definitions, {sum(lines[it] for it in order):,} lines with their comments; the types that they name stand in {len(types)} files of `src/`."
-    yield ""
-    yield "| file | lines | what it says |"
-    yield "|---|---|---|"
+    order, _ = files()
+    agree, machine = set(files(AGREE)[0]), set(files(MACHINE)[0])
+    yield "| file | lines | list | what it says |"
+    yield "|---|---|---|---|"
     for path in order:
-        yield f"| `{path}` | {lines[path]} | {sentence_of(path)} |"
+        on = " ".join(name for name, its in (("A", agree), ("M", machine)) if path in its)
+        yield f"| `{path}` | {lines_in([path])} | {on} | {sentence_of(path)} |"
 
 
 def page_of(text):
-    """The page with the table of today."""
-    before, _, rest = text.partition(MARKS[0])
-    _, _, behind = rest.partition(MARKS[1])
-    return before + MARKS[0] + "\n".join(table()) + "\n" + MARKS[1] + behind
+    """The page with the numbers and the table of today."""
+    for marks, lines in ((NUMBERS, numbers()), (MARKS, table())):
+        before, _, rest = text.partition(marks[0])
+        _, _, behind = rest.partition(marks[1])
+        text = before + marks[0] + "\n".join(lines) + "\n" + marks[1] + behind
+    return text
 
 
 def main(words):
@@ -96,7 +166,7 @@ def main(words):
     if words:
         print(__doc__)
         return 2
-    print("\n".join(table()))
+    print("\n".join([*numbers(), "", *table()]))
     return 0
 
 
