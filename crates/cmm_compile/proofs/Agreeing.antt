@@ -303,4 +303,5 @@ images_agree_with_units frames placed can reaches follows begins compiled_so sho
       lines = λ script stack input is_size are m right call walk asks has. line_comes promises p graphs found t i made script stack is_size input are m right call walk asks has;
       tells = tells promises p graphs found t i made;
       code = subst (λ (code : List ℕ). length code ≤ code_bound (sum_by (λ q. q.tokens) p.procs)) (sym made.image.code) made.size;
+      version = made.image.version;
     }

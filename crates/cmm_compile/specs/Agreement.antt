@@ -69,6 +69,8 @@ pub record AgreesWith (p : Program) (i : ImageParts) : Type 0 where
   pub tells : TellsOf p i
   -- and there is no more code than the tokens of the program allow
   pub code : length i.code ≤ code_bound (sum_by (λ q. q.tokens) p.procs)
+  -- it is written in version 2 of the format
+  pub version : i.version ≡ 2
 
 -- units mean a program, with which the image agrees
 pub record Agree (units : List (List ℕ)) (i : ImageParts) : Type 0 where

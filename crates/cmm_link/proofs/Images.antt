@@ -315,6 +315,7 @@ value_same p places d t placement laid count rows (Address label plus) = ap (λ 
 pub made_are_linked : (p : Program) (places : List ProcedurePlaces) (d : DataImage) (t : Text) (i : ImageParts) → HaveFrames p.procs places → IsDataOf p d → IsText p t →
     AreMade p places d t i → IsImageOf p places t i
 made_are_linked p places d t i frames laid text made = record {
+  version = made.version;
   code = made.code;
   start = made.start;
   last = made.last;

@@ -46,8 +46,9 @@ pub record AreSitesOf (sites rows : List SiteRow) : Type 0 where
   pub ascending : IsTrue (ascend_above 0 (map (λ row. row.return_address) rows))
 
 -- The image has the program's code as it lies, its data as the addresses of its procedures make it, and a row for each procedure, each site of
--- each, each name under which a data label is exported, and each global register.
+-- each, each name under which a data label is exported, and each global register. It is written in version 2 of the format.
 pub record IsImageOf (p : Program) (places : List ProcedurePlaces) (t : Text) (i : ImageParts) : Type 0 where
+  pub version : i.version ≡ 2
   pub code : i.code ≡ t.code
   pub start : i.start ≡ t.start
   pub last : i.last ≡ t.last
