@@ -158,14 +158,18 @@ def switch_cases():
 
 # ---- how many instructions
 
-# beside operands and destination, at 64 bits and at less
+# to cut what a register has to a width, and to give a word its sign: a mask holds 8 bits, and an addition of 32 bits gives the sign
+CUT = {8: 1, 16: 2, 32: 2, 64: 0}
+SIGN = {8: 2, 16: 2, 32: 1, 64: 0}
+# beside operands and destination: the operator at 64 bits, how many words get their sign, and how often a result is cut that may be past the width
 OWN = {
-    **{name: (1, 3) for name in "Add Sub Mul And Or Xor Divu Modu Com Neg".split()},
-    **{name: (3, 5) for name in "Shl Shrl".split()},
-    "Shra": (4, 8),
-    **{name: (6, 8) for name in "Rotl Rotr".split()},
-    **{name: (1, 7) for name in "Quot Rem".split()},
-    **{name: (5, 11) for name in "Div Mod".split()},
+    **{name: (1, 0, 1) for name in "Add Sub Mul Com Neg".split()},
+    **{name: (1, 0, 0) for name in "And Or Xor Divu Modu".split()},
+    **{name: (3, 0, 1) for name in "Shl Shrl".split()},
+    "Shra": (4, 1, 1),
+    **{name: (6, 0, 1) for name in "Rotl Rotr".split()},
+    **{name: (1, 2, 1) for name in "Quot Rem".split()},
+    **{name: (5, 2, 1) for name in "Div Mod".split()},
 }
 # done on operands where they are
 IN_PLACE = set("Add Sub Mul And Or Xor Divu Modu".split())
@@ -178,6 +182,12 @@ def accesses(width, aligned):
     return size // min(size, aligned)
 
 
+def own(name, width):
+    """The instructions of an operator on words in registers."""
+    wide, signs, cuts = OWN[name]
+    return wide + signs * SIGN[width] + cuts * CUT[width]
+
+
 def counts(width, place):
     """Each node with its instructions, where so many read the place of an operand or write that of the destination: none at a register, which
     is used where it is, but by nodes that change their operands."""
@@ -186,15 +196,15 @@ def counts(width, place):
     copy = 2 * place or 1
     yield "copy", copy
     for name in BINARY:
-        yield name, 3 * (place if name in IN_PLACE else moved) + OWN[name][narrow]
+        yield name, 3 * (place if name in IN_PLACE else moved) + own(name, width)
     for name in COMPARISONS:
         signed = narrow and name in ("Lt", "Le", "Gt", "Ge")
-        read = 2 * moved + 4 if signed else 2 * place
+        read = 2 * moved + 2 * SIGN[width] if signed else 2 * place
         yield name, read + TOLD[name] + place, read + BRANCH
     for name in UNARY:
-        yield name, 2 * place + OWN[name][narrow]
-    yield "extended", 2 * place + 2 if narrow else copy
-    yield "low", 2 * place + 2 if narrow else copy
+        yield name, 2 * place + own(name, width)
+    yield "extended", 2 * place + SIGN[width] if narrow else copy
+    yield "low", 2 * place + CUT[width] if narrow else copy
     yield "load", *(2 * (place if n == 1 else moved) + 3 * n - 2 for n in (accesses(width, 8), accesses(width, 1)))
     yield "store", *(2 * (place if n == 1 else moved) + 2 * n - 1 for n in (accesses(width, 8), accesses(width, 1)))
 

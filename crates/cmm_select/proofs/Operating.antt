@@ -1,5 +1,5 @@
 -- An operator at a width is the operator of 64 bits and a cut, on words as they are or with their sign.
-use Rattle.std.proofs.Common.{◌≡◌, ℕ, ◌+◌, refl, sym, ◌∙◌, ap, subst, arith, Some, None, Option}
+use Rattle.std.proofs.Common.{◌≡◌, ℕ, ◌+◌, ◌≤◌, refl, sym, ◌∙◌, ap, subst, arith, Some, None, Option}
 use Rattle.std.specs.Prelude.{option_map, IsTrue}
 use Rattle.cmm_words.specs.Laws.{IsCut2, IsCutOfExtended, IsCutOfExtendedFirst}
 use Rattle.cmm_words.specs.Widths.{IsWord}
@@ -17,7 +17,7 @@ use Rattle.cmm_select.proofs.InPlace.{beside_then, set_beside}
 use Rattle.cmm_select.proofs.Rotating.{OperatesUncut}
 use Rattle.cmm_select.specs.Operators.{Extends, HasWord, HaveWords, Narrows, Operates}
 use Rattle.cmm_select.specs.inside.InPlace.{IsValue, Makes}
-use Rattle.cmm_select.specs.inside.Wide.{is_plain, is_shift, is_signed}
+use Rattle.cmm_select.specs.inside.Wide.{keeps_width, is_plain, is_shift, is_signed}
 
 -- where a value is cut from one of 64 bits, there is that one
 wide_value : (w : Width) (o : Option ℕ) (v : ℕ) → option_map (low_bits w) o ≡ Some v → (u : ℕ) × (o ≡ Some u) × (low_bits w u ≡ v)
@@ -132,6 +132,22 @@ module _ (x : Code) (w : Width) where
           narrows.given ∙ ap (low_bits w) (operates.given wide.0 (operands ∙ wide.1)) ∙ wide.2
 
 -- ---- which law an operator has
+
+-- what has the same value at 64 bits needs no cut
+same_value : (o : Op2) → IsTrue (keeps_width o) → (w : Width) (a b : ℕ) → value2 o w a b ≡ value2 o W64 a b
+same_value op.And is w a b = refl
+same_value op.Or is w a b = refl
+same_value op.Xor is w a b = refl
+same_value op.Divu is w a b = refl
+same_value op.Modu is w a b = refl
+same_value _ is w a b = absurd (cc)
+
+pub kept_makes : (f g : State → ℕ) (x : Code) (from to n m rd : ℕ) (o : Op2) (w : Width) → IsTrue (keeps_width o) → n ≤ m →
+    Leads n Always (λ s t. Makes rd (IsValue o W64 (f s) (g s)) s t) x from to →
+    Leads m (λ y s. IsWord w (f s) × IsWord w (g s)) (λ s t. Makes rd (IsValue o w (f s) (g s)) s t) x from to
+kept_makes f g x from to n m rd o w is le leads =
+    leads_weaker leads le (λ s sound words. tt)
+    (λ s t sound words makes. record { given = λ v value. makes.given v (sym (same_value o is w (f s) (g s)) ∙ value); keeps = makes.keeps })
 
 pub plain_cut : (o : Op2) → IsTrue (is_plain o) → IsCut2 op.Add → IsCut2 op.Sub → IsCut2 op.Mul → IsCut2 op.And → IsCut2 op.Or → IsCut2 op.Xor →
     IsCut2 op.Divu → IsCut2 op.Modu → IsCut2 o

@@ -2,14 +2,16 @@
 use Rattle.std.proofs.Common.{◌≡◌, ◌≢◌, ℕ, ◌<◌, ◌^◌, refl, ap, arith, pos}
 use Rattle.std.proofs.lemmas.Bool.Decides.{nat_tests}
 use Rattle.std.proofs.lemmas.Int.{ints}
+use Rattle.std.proofs.lemmas.Nat.{and_mask}
+use Rattle.std.specs.Int.Bits.{bit_and}
 use Rattle.cmm_words.specs.Widths.{IsWord}
 use Rattle.cmm_words.specs.Words.{low_bits, sign_extended}
 use Rattle.cmm_words.specs.declared.width.Width.{Width}
 use Rattle.cmm_words.specs.declared.width.Width.TheVariants.{W8, W16, W32, W64}
 use Rattle.rv_asm.specs.Appending.{Then}
 use Rattle.rv_asm.specs.Parts.{Code}
-use Rattle.rv_table.specs.Words.{modulo, shifted_left, shifted_right, shifted_right_signed}
-use Rattle.rv_table.specs.declared.instruction.Instr.TheVariants.{Addi, Slli, Srai, Srli}
+use Rattle.rv_table.specs.Words.{modulo, shifted_left, shifted_right, shifted_right_signed, sum, word}
+use Rattle.rv_table.specs.declared.instruction.Instr.TheVariants.{Addi, Addiw, Andi, Slli, Srai, Srli}
 use Rattle.cmm_effects.proofs.Shared.{leads_set, leads_then, leads_weaker, runs_none, runs_of}
 use Rattle.cmm_effects.specs.Changes.{Sets}
 use Rattle.cmm_effects.specs.Pieces.{Always, Leads, Runs}
@@ -94,6 +96,13 @@ module _ (x : Code) (from to rd r : ℕ) where
       leads_weaker (copies x rd r from to written does) (omega arith) (λ s sound p. tt)
       (λ s t sound p sets. set_as rd (s.registers r) (low_bits W64 (s.registers r)) s t (cut_64 (s.registers r) (sound.registers r)) sets)
 
+-- a byte by its mask
+pub cuts_byte : (x : Code) (from to rd r : ℕ) → rd ≢ 0 → One (Andi rd r (pos 255)) x from to → Cuts W8 rd r x from to
+cuts_byte x from to rd r written does =
+    leads_weaker (leads_set x (Andi rd r (pos 255)) from to rd (λ g. bit_and (g r) (modulo 64 (pos 255))) written (λ g pc. refl) does) (omega arith)
+    (λ s sound p. tt)
+    (λ s t sound p sets. set_as rd (bit_and (s.registers r) (modulo 64 (pos 255))) (low_bits W8 (s.registers r)) s t (and_mask (s.registers r) 8) sets)
+
 pub cuts_none : (x : Code) (rd from to : ℕ) → from ≡ to → Runs 0 0 Always (Narrows W64 rd) x from to
 cuts_none x rd from to is = runs_none is (λ s sound p. record { given = cut_64 (s.registers rd) (sound.registers rd); others = λ r h. refl; memory = refl })
 
@@ -135,6 +144,17 @@ module _ (x : Code) (from to rd r : ℕ) where
   extends_64 written does =
       leads_weaker (copies x rd r from to written does) (omega arith) (λ s sound word. tt)
       (λ s t sound word sets. set_as rd (s.registers r) (sign_extended W64 W64 (s.registers r)) s t (extended_64 (s.registers r) word) sets)
+
+-- a word of 32 bits by the instruction that adds at 32 bits
+extended_word : (a : ℕ) → IsWord W32 a → word (sum a (modulo 64 (pos 0))) ≡ sign_extended W32 W64 a
+extended_word a h = grind (arith, ints, nat_tests)
+
+pub signs_word : (x : Code) (from to rd r : ℕ) → rd ≢ 0 → One (Addiw rd r (pos 0)) x from to → SignsFrom W32 rd r x from to
+signs_word x from to rd r written does =
+    leads_weaker (leads_set x (Addiw rd r (pos 0)) from to rd (λ g. word (sum (g r) (modulo 64 (pos 0)))) written (λ g pc. refl) does) (omega arith)
+    (λ s sound word_there. tt)
+    (λ s t sound word_there sets. set_as rd (word (sum (s.registers r) (modulo 64 (pos 0)))) (sign_extended W32 W64 (s.registers r)) s t
+    (extended_word (s.registers r) word_there) sets)
 
 pub extends_none : (x : Code) (rd from to : ℕ) → from ≡ to → Runs 0 0 (HasWord W64 rd) (Extends W64 rd) x from to
 extends_none x rd from to is = runs_none is (λ s sound word. record { given = extended_64 (s.registers rd) word; others = λ r h. refl; memory = refl })

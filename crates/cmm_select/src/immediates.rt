@@ -14,7 +14,7 @@ ghost use Rattle.cmm_select.specs.inside.InPlace.{IsTarget, IsValue, Makes, Tell
 use crate::comparing::{compare, needs_signs};
 use crate::number::load_constant;
 use crate::operand::Operand;
-use crate::operator::{narrow, sign};
+use crate::operator::{keeps_width, narrow, sign};
 use crate::source::Source;
 use crate::word::NEAR;
 use cmm_abi::registers::{FIRST_SCRATCH, SECOND_SCRATCH, ZERO};
@@ -76,6 +76,9 @@ pub(crate) fn operate_with(
         return narrow(asm, width, rd);
     }
     asm.emit(instruction(operator, rd, first, number))?;
+    if keeps_width(operator) {
+        return Ok(());
+    }
     narrow(asm, width, rd)
 }
 

@@ -6,12 +6,12 @@ ghost use Rattle.cmm_words.specs.Words.{low_bits, sign_extended};
 ghost use Rattle.cmm_words.specs.declared.width.Width.TheVariants.{W64};
 ghost use Rattle.rv_table.specs.Table.{IsValid};
 ghost use Rattle.rv_table.specs.Words.{shifted_left, shifted_right, shifted_right_signed};
-ghost use Rattle.rv_table.specs.declared.instruction.Instr.TheVariants.{Addi, Andi, Slli, Srai, Srli};
+ghost use Rattle.rv_table.specs.declared.instruction.Instr.TheVariants.{Addi, Addiw, Andi, Slli, Srai, Srli};
 ghost use Rattle.cmm_effects.specs.Changes.{Sets};
 ghost use Rattle.cmm_effects.specs.Pieces.{Adds, Always, Leads, Runs};
 ghost use Rattle.cmm_select.specs.Operators.{Extends, HasWord, HaveWords, Narrows, Operates, shifts_of};
 ghost use Rattle.cmm_select.specs.inside.InPlace.{HaveWordsIn, IsTarget, IsValue, Makes};
-ghost use Rattle.cmm_select.specs.inside.Wide.{direct, is_plain, is_shift, is_signed, method_of};
+ghost use Rattle.cmm_select.specs.inside.Wide.{direct, is_plain, is_shift, is_signed, keeps_width, method_of};
 
 use crate::place::copy;
 use cmm_abi::registers::{FIRST_SCRATCH, HELPER, SECOND_SCRATCH, ZERO};
@@ -21,7 +21,7 @@ use rv_asm::Asm;
 use rv_table::Instr;
 use std::alloc::AllocError;
 
-/// Cuts the number in register `rd` to a width: its upper bits are shifted out.
+/// Cuts the number in register `rd` to a width: its upper bits are masked or shifted out.
 pub(crate) fn narrow(asm: &mut Asm, width: Width, rd: u8) -> Result<(), AllocError>
     requires { IsTarget rd }
     ensures narrows { OnOk result (Adds (shifts_of width) asm.old.parts asm.new.parts (Runs 0 (shifts_of width) Always (Narrows width rd))) }
@@ -33,7 +33,7 @@ pub(crate) fn narrow(asm: &mut Asm, width: Width, rd: u8) -> Result<(), AllocErr
     }
 }
 
-/// Gives register `rd` the low bits of the number in register `from`, as many as a width has.
+/// Gives register `rd` the low bits of the number in register `from`, as many as a width has. A mask of 8 bits fits in an instruction.
 pub(crate) fn cut(asm: &mut Asm, width: Width, rd: u8, from: u8) -> Result<(), AllocError>
     requires register { IsTarget rd }
     requires from { from < 32 }
@@ -41,7 +41,7 @@ pub(crate) fn cut(asm: &mut Asm, width: Width, rd: u8, from: u8) -> Result<(), A
     ensures labels { asm.new.labels ≡ asm.old.labels }
 {
     match width {
-        Width::W8 => shift_out(asm, rd, from, 56),
+        Width::W8 => asm.emit(low_byte(rd, from)),
         Width::W16 => shift_out(asm, rd, from, 48),
         Width::W32 => shift_out(asm, rd, from, 32),
         Width::W64 => asm.emit(copy(rd, from)),
@@ -70,9 +70,29 @@ pub(crate) fn sign(asm: &mut Asm, width: Width, rd: u8, from: u8) -> Result<(), 
     match width {
         Width::W8 => shift_back(asm, rd, from, 56),
         Width::W16 => shift_back(asm, rd, from, 48),
-        Width::W32 => shift_back(asm, rd, from, 32),
+        Width::W32 => asm.emit(signed_word(rd, from)),
         Width::W64 => asm.emit(copy(rd, from)),
     }
+}
+
+/// The instruction that gives a register the low byte of another.
+fn low_byte(rd: u8, rs1: u8) -> Instr
+    requires register { rd < 32 }
+    requires from { rs1 < 32 }
+    ensures is { result ≡ Andi rd rs1 (pos 255) }
+    ensures valid { IsValid result }
+{
+    Instr::Andi { rd, rs1, imm: 255 }
+}
+
+/// The instruction that gives a register a word of 32 bits of another with its sign.
+fn signed_word(rd: u8, rs1: u8) -> Instr
+    requires register { rd < 32 }
+    requires from { rs1 < 32 }
+    ensures is { result ≡ Addiw rd rs1 (pos 0) }
+    ensures valid { IsValid result }
+{
+    Instr::Addiw { rd, rs1, imm: 0 }
 }
 
 /// Shifts what register `from` has to the left, and back with zeros.
@@ -203,7 +223,7 @@ fn method_for(operator: Op2) -> Method
     }
 }
 
-/// The operator of 64 bits in one instruction on two registers, and a cut.
+/// The operator of 64 bits in one instruction on two registers, and a cut where what it gives may be past the width.
 pub(crate) fn plain(
     asm: &mut Asm,
     operator: Op2,
@@ -221,7 +241,20 @@ pub(crate) fn plain(
 {
     wide_operators();
     asm.emit(instruction(operator, rd, first, second))?;
+    if keeps_width(operator) {
+        return Ok(());
+    }
     narrow(asm, width, rd)
+}
+
+/// Whether the value of an operator on words of a width is such a word as it is made at 64 bits.
+pub(crate) fn keeps_width(operator: Op2) -> bool
+    ensures { result ≡ keeps_width operator }
+{
+    matches!(
+        operator,
+        Op2::And | Op2::Or | Op2::Xor | Op2::Divu | Op2::Modu
+    )
 }
 
 /// A shift of 64 bits, cleared where the count is not below 64, and a cut.

@@ -19,6 +19,15 @@ is_plain op.Divu = true
 is_plain op.Modu = true
 is_plain _ = false
 
+-- one whose value on words of a width is the same at 64 bits
+abbrev pub keeps_width : Op2 → Bool
+keeps_width op.And = true
+keeps_width op.Or = true
+keeps_width op.Xor = true
+keeps_width op.Divu = true
+keeps_width op.Modu = true
+keeps_width _ = false
+
 -- or on words with their sign
 abbrev pub is_signed : Op2 → Bool
 is_signed op.Quot = true

@@ -1,11 +1,12 @@
-use Rattle.std.proofs.Common.{◌≡◌, ◌≢◌, ◌∙◌, sym, arith, true, false}
+use Rattle.std.proofs.Common.{◌≡◌, ◌≢◌, ◌+◌, ◌∙◌, IsTrue, sym, arith, true, false}
 use Rattle.cmm_effects.proofs.Shared.{adds_one, adds_then, adds_weaker, by_last, leads_weaker}
 use Rattle.cmm_effects.specs.Pieces.{Adds}
 use Rattle.cmm_select.proofs.SmallNumbers.{does_small, signed_small_cut, small_cut}
-use Rattle.cmm_select.proofs.Operating.{cut_makes, signed_makes}
+use Rattle.cmm_select.proofs.Operating.{cut_makes, kept_makes, signed_makes}
 use Rattle.cmm_select.proofs.Places.{One}
 use Rattle.cmm_select.specs.Operators.{shifts_of}
 use Rattle.cmm_select.specs.inside.Immediates.{heeds_sign, immediate}
+use Rattle.cmm_select.specs.inside.Wide.{keeps_width}
 use Rattle.cmm_select.proofs.immediates.operate_with.Goals as goal
 
 pub returns-then-heeds_sign-clause-operates : goal.returns-then-heeds_sign-clause-operates
@@ -44,3 +45,19 @@ returns-clause-operates c =
     (cut_makes (λ s. s.registers a) (λ s. n) x from does.0 to 1 (shifts_of w) rd o w (small_cut o w n c.requires.small e l.add l.sub l.and l.or l.xor l.shl l.shrl l.shra)
     (does_small x from does.0 rd a n written o c.requires.small does.1) does.2)
     (omega arith) (λ s sound words. words) (λ s t sound words makes. makes)))
+
+pub returns-then-keeps_width-clause-operates : goal.returns-then-keeps_width-clause-operates
+returns-then-keeps_width-clause-operates c =
+    let o = c.args.operator in
+    let w = c.args.width in
+    let rd = c.args.rd in
+    let a = c.args.first in
+    let n = c.args.number in
+    let first : Adds 1 c.args.asm.now.parts c.emit-2.new.self.parts (One (immediate o rd a n)) =
+    rw (c.in_ok-emit-2.ensures.parts, c.instruction-2.ensures.is) (adds_one c.args.asm.now.parts (immediate o rd a n))
+    in
+    let written : rd ≢ 0 = (λ e. omega (arith, e, c.requires.register.0)) in
+    let keeps : IsTrue (keeps_width o) = grind (arith, c.keeps_width.ensures, c.if-keeps_width.true) in
+    adds_weaker first (omega arith)
+    (λ x from to does. kept_makes (λ s. s.registers a) (λ s. n) x from to 1 (3 + shifts_of w) rd o w keeps (omega arith)
+    (does_small x from to rd a n written o c.requires.small does))
