@@ -165,7 +165,8 @@ SIGN = {8: 2, 16: 2, 32: 1, 64: 0}
 OWN = {
     **{name: (1, 0, 1) for name in "Add Sub Mul Com Neg".split()},
     **{name: (1, 0, 0) for name in "And Or Xor Divu Modu".split()},
-    **{name: (3, 0, 1) for name in "Shl Shrl".split()},
+    "Shl": (3, 0, 1),
+    "Shrl": (3, 0, 0),
     "Shra": (4, 1, 1),
     **{name: (6, 0, 1) for name in "Rotl Rotr".split()},
     **{name: (1, 2, 1) for name in "Quot Rem".split()},

@@ -11,6 +11,7 @@ mod Operating
 mod SmallComparisons
 mod SmallNumbers
 mod Rotating
+mod SmallRotations
 mod Signs
 mod Rounding
 mod Accessing

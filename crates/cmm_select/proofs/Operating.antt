@@ -1,13 +1,16 @@
 -- An operator at a width is the operator of 64 bits and a cut, on words as they are or with their sign.
-use Rattle.std.proofs.Common.{◌≡◌, ℕ, ◌+◌, ◌≤◌, refl, sym, ◌∙◌, ap, subst, arith, Some, None, Option}
+use Rattle.std.proofs.Common.{◌≡◌, ◌⊎◌, inl, inr, ℕ, ◌+◌, ◌/◌, ◌^◌, ◌<◌, ◌≤◌, refl, sym, ◌∙◌, ap, subst, arith, min, Some, None, Option}
 use Rattle.std.specs.Prelude.{option_map, IsTrue}
+use Rattle.std.proofs.Math.Nat.{div-eq_of_lt}
+use Rattle.std.proofs.Math.Pow.{pow_mono}
+use Rattle.std.proofs.lemmas.Bool.{cases_lt}
 use Rattle.cmm_words.specs.Laws.{IsCut2, IsCutOfExtended, IsCutOfExtendedFirst}
-use Rattle.cmm_words.specs.Widths.{IsWord}
+use Rattle.cmm_words.specs.Widths.{IsWord, bits}
 use Rattle.cmm_words.specs.Words.{low_bits, sign_extended, value2}
 use Rattle.cmm_words.specs.declared.operators.Op2.{Op2}
 use Rattle.cmm_words.specs.declared.operators.Op2.TheVariants as op
 use Rattle.cmm_words.specs.declared.width.Width.{Width}
-use Rattle.cmm_words.specs.declared.width.Width.TheVariants.{W64}
+use Rattle.cmm_words.specs.declared.width.Width.TheVariants.{W8, W16, W32, W64}
 use Rattle.rv_asm.specs.Parts.{Code}
 use Rattle.rv_table.specs.Machine.{State}
 use Rattle.cmm_effects.proofs.Shared.{keeps_then, leads_then, leads_weaker, runs_of, runs_then, runs_weaker, set_keeps}
@@ -133,21 +136,52 @@ module _ (x : Code) (w : Width) where
 
 -- ---- which law an operator has
 
+-- a shift to the right by a word's bits or more leaves nothing of it
+right_same : (k a b : ℕ) → a < 2 ^ k → k ≤ 64 → a / 2 ^ min b k ≡ a / 2 ^ min b 64
+right_same k a b word most = by (cases_lt b k)
+  where
+    by : (b < k) ⊎ (k ≤ b) → a / 2 ^ min b k ≡ a / 2 ^ min b 64
+    by (inl h) =
+        let e : min b k ≡ b = grind (arith, h) in
+        let f : min b 64 ≡ b = grind (arith, h, most) in
+        ap (λ (n : ℕ). a / 2 ^ n) (e ∙ sym f)
+    by (inr h) =
+        let e : min b k ≡ k = grind (arith, h) in
+        let f : k ≤ min b 64 = grind (arith, h, most) in
+        let g : 2 ^ k ≤ 2 ^ min b 64 = pow_mono f in
+        ap (λ (n : ℕ). a / 2 ^ n) e ∙ div-eq_of_lt word ∙ sym (div-eq_of_lt (omega (arith, word, g)))
+
+bits_most : (w : Width) → bits w ≤ 64
+bits_most W8 = omega arith
+bits_most W16 = omega arith
+bits_most W32 = omega arith
+bits_most W64 = omega arith
+
 -- what has the same value at 64 bits needs no cut
-same_value : (o : Op2) → IsTrue (keeps_width o) → (w : Width) (a b : ℕ) → value2 o w a b ≡ value2 o W64 a b
-same_value op.And is w a b = refl
-same_value op.Or is w a b = refl
-same_value op.Xor is w a b = refl
-same_value op.Divu is w a b = refl
-same_value op.Modu is w a b = refl
-same_value _ is w a b = absurd (cc)
+same_value : (o : Op2) → IsTrue (keeps_width o) → (w : Width) (a b : ℕ) → IsWord w a → value2 o w a b ≡ value2 o W64 a b
+same_value op.And is w a b word = refl
+same_value op.Or is w a b word = refl
+same_value op.Xor is w a b word = refl
+same_value op.Shrl is w a b word = ap (λ (n : ℕ). Some n) (right_same (bits w) a b word (bits_most w))
+same_value op.Divu is w a b word = refl
+same_value op.Modu is w a b word = refl
+same_value _ is w a b word = absurd (cc)
+
+pub kept_operates : (x : Code) (from to n m : ℕ) (o : Op2) (w : Width) → IsTrue (keeps_width o) → n ≤ m → Runs 0 n Always (Operates o W64) x from to →
+    Runs 0 m (HaveWords w) (Operates o w) x from to
+kept_operates x from to n m o w is le runs =
+    runs_weaker runs (omega arith) le (λ s sound words. tt)
+    (λ s t sound words operates. record {
+      given = λ v value. operates.given v (sym (same_value o is w (s.registers 5) (s.registers 7) words.0) ∙ value);
+      keeps = operates.keeps;
+    })
 
 pub kept_makes : (f g : State → ℕ) (x : Code) (from to n m rd : ℕ) (o : Op2) (w : Width) → IsTrue (keeps_width o) → n ≤ m →
     Leads n Always (λ s t. Makes rd (IsValue o W64 (f s) (g s)) s t) x from to →
     Leads m (λ y s. IsWord w (f s) × IsWord w (g s)) (λ s t. Makes rd (IsValue o w (f s) (g s)) s t) x from to
 kept_makes f g x from to n m rd o w is le leads =
     leads_weaker leads le (λ s sound words. tt)
-    (λ s t sound words makes. record { given = λ v value. makes.given v (sym (same_value o is w (f s) (g s)) ∙ value); keeps = makes.keeps })
+    (λ s t sound words makes. record { given = λ v value. makes.given v (sym (same_value o is w (f s) (g s) words.0) ∙ value); keeps = makes.keeps })
 
 pub plain_cut : (o : Op2) → IsTrue (is_plain o) → IsCut2 op.Add → IsCut2 op.Sub → IsCut2 op.Mul → IsCut2 op.And → IsCut2 op.Or → IsCut2 op.Xor →
     IsCut2 op.Divu → IsCut2 op.Modu → IsCut2 o

@@ -4,7 +4,7 @@ use Rattle.cmm_chain.specs.declared.frame.Location.TheVariants.{Slot, Saved}
 use Rattle.cmm_words.specs.Words.{holds, value2}
 use Rattle.cmm_words.specs.declared.operators.Cmp.TheVariants as cmp
 use Rattle.cmm_words.specs.declared.operators.Op2.TheVariants as op
-use Rattle.cmm_words.specs.declared.width.Width.TheVariants.{W8, W64}
+use Rattle.cmm_words.specs.declared.width.Width.TheVariants.{W8, W32, W64}
 use Rattle.rv_table.specs.Machine.{MemoryMap, State, steps}
 use Rattle.rv_table.specs.Registers.{with_register}
 use Rattle.cmm_effects.specs.Changes.{read_at}
@@ -19,6 +19,7 @@ use Rattle.cmm_select.specs.Memory.{accesses}
 use Rattle.cmm_select.specs.Operands.{most_for, operand_at}
 use Rattle.cmm_select.specs.Switches.{arm_address}
 use Rattle.cmm_select.specs.declared.source.Source.TheVariants.{Place, Number, Address}
+use Rattle.cmm_select.specs.inside.Rotations.{left_by, right_by}
 
 abbrev running : List ℕ → MemoryMap
 running code = record { code = code; data_length = 0; region_length = 0x2000 }
@@ -30,14 +31,14 @@ abbrev result : Option State → Option ℕ
 result (Some t) = Some (t.registers 5)
 result None = None
 
--- sub x5, x5, x7; slli x5, x5, 56; srli x5, x5, 56
+-- sub x5, x5, x7; andi x5, x5, 255
 abbrev difference : MemoryMap
-difference = running (0xb3 ∷ 0x82 ∷ 0x72 ∷ 0x40 ∷ 0x93 ∷ 0x92 ∷ 0x82 ∷ 0x03 ∷ 0x93 ∷ 0xd2 ∷ 0x82 ∷ 0x03 ∷ [])
+difference = running (0xb3 ∷ 0x82 ∷ 0x72 ∷ 0x40 ∷ 0x93 ∷ 0xf2 ∷ 0xf2 ∷ 0x0f ∷ [])
 
 words_are_given : HaveWords W8 difference (on_words 5 7)
 words_are_given = (lit< tt, lit< tt)
 
-difference_is_cut : (result (steps difference 3 (on_words 5 7)) ≡ Some 254) × (value2 op.Sub W8 5 7 ≡ Some 254)
+difference_is_cut : (result (steps difference 2 (on_words 5 7)) ≡ Some 254) × (value2 op.Sub W8 5 7 ≡ Some 254)
 difference_is_cut = (refl, refl)
 
 -- sltu x5, x5, x7; xori x5, x5, 1
@@ -52,11 +53,9 @@ comparison_fails = (refl, refl)
 
 -- ---- a difference at 8 bits, of what register 9 has and 7, in a slot of the frame at 0x60001000
 
--- addi x5, x9, 0; addi x7, x0, 7; sub x5, x5, x7; slli x5, x5, 56; srli x5, x5, 56; sd x5, 8(x2)
+-- addi x5, x9, -7; andi x5, x5, 255; sd x5, 8(x2)
 abbrev assignment : MemoryMap
-assignment =
-    running
-    (0x93 ∷ 0x82 ∷ 0x04 ∷ 0x00 ∷ 0x93 ∷ 0x03 ∷ 0x70 ∷ 0x00 ∷ 0xb3 ∷ 0x82 ∷ 0x72 ∷ 0x40 ∷ 0x93 ∷ 0x92 ∷ 0x82 ∷ 0x03 ∷ 0x93 ∷ 0xd2 ∷ 0x82 ∷ 0x03 ∷ 0x23 ∷ 0x34 ∷ 0x51 ∷ 0x00 ∷ [])
+assignment = running (0x93 ∷ 0x82 ∷ 0x94 ∷ 0xff ∷ 0x93 ∷ 0xf2 ∷ 0xf2 ∷ 0x0f ∷ 0x23 ∷ 0x34 ∷ 0x51 ∷ 0x00 ∷ [])
 
 abbrev before : State
 before = record { registers = with_register (with_register (λ r. 0) 2 0x60001000) 9 5; pc = 0x10000; memory = λ k. 0 }
@@ -68,11 +67,19 @@ in_slot None = None
 may_be_assigned : CanAssignBoth (λ l. 0) W8 (Held (Place (Saved 9))) (Held (Number 7)) (destination.Place (Slot 8)) assignment before
 may_be_assigned = record { brings = record { brings_left = tt; brings_right = tt }; words = (lit< tt, lit< tt); reaches = (lit< tt, refl) }
 
-difference_is_assigned : in_slot (steps assignment 6 before) ≡ Some 254
+difference_is_assigned : in_slot (steps assignment 3 before) ≡ Some 254
 difference_is_assigned = refl
 
 operands_are_brought : (brought (Place (Saved 9)) before ≡ 5) × (brought (Number 7) before ≡ 7) × (brought (Address 16) before ≡ 0x60001010)
 operands_are_brought = (refl, refl, refl)
+
+-- ---- rotations by a number
+
+rotation_past_the_width : (left_by op.Rotr W32 40 ≡ 24) × (right_by op.Rotr W32 40 ≡ 8)
+rotation_past_the_width = (refl, refl)
+
+rotation_by_the_width : (left_by op.Rotl W64 64 ≡ 0) × (right_by op.Rotl W64 64 ≡ 0)
+rotation_by_the_width = (refl, refl)
 
 -- ---- operands that name a label, accesses, and the arms of a switch
 

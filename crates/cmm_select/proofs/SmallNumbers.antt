@@ -69,7 +69,7 @@ negative_small a n h g =
     in
     omega (arith, negative, g)
 
-six_bits : (n : ℕ) → n < 64 → modulo 6 (pos n) ≡ n
+pub six_bits : (n : ℕ) → n < 64 → modulo 6 (pos n) ≡ n
 six_bits n h = omega arith
 
 least : (n : ℕ) → n < 64 → n ≡ min n 64

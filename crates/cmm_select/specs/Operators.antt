@@ -31,7 +31,7 @@ Narrows w r s t = Sets r (low_bits w (s.registers r)) s t
 abbrev pub Extends : Width → ℕ → State → State → Type 0
 Extends w r s t = Sets r (sign_extended w W64 (s.registers r)) s t
 
--- how many shifts cut a number to a width, or extend a word of it: none at 64 bits
+-- how many instructions at most cut a number to a width, or extend a word of it: none at 64 bits
 abbrev pub shifts_of : Width → ℕ
 shifts_of W8 = 2
 shifts_of W16 = 2

@@ -12,6 +12,7 @@ ghost use Rattle.cmm_select.specs.Operators.{shifts_of};
 ghost use Rattle.cmm_select.specs.declared.operand.Operand.TheVariants.{Held};
 ghost use Rattle.cmm_select.specs.declared.source.Source.TheVariants.{Number};
 ghost use Rattle.cmm_select.specs.inside.Immediates.{compared_below, limit_of};
+ghost use Rattle.cmm_select.specs.inside.Rotations.{is_rotation};
 ghost use Rattle.cmm_select.specs.inside.Wide.{is_plain};
 
 use crate::comparing::{compare, ready};
@@ -20,6 +21,7 @@ use crate::immediates::{compare_with, compared, operate_with, small};
 use crate::in_place::{finish, home_of, locate, locate_both, target};
 use crate::operand::{Operand, bring_both, bring_operand};
 use crate::operator::{cut, is_plain, narrow, operate, plain, sign};
+use crate::rotation::{rotate_with, turns};
 use crate::unary::operate_on_one;
 use cmm_abi::registers::FIRST_SCRATCH;
 use cmm_words::{Cmp, Op1, Op2, Width};
@@ -137,6 +139,9 @@ pub fn assign_binary(
     if let Some(number) = small(operator, right) {
         return assign_small(asm, operator, width, left, number, to);
     }
+    if let Some(number) = turns(operator, right) {
+        return assign_rotated(asm, operator, width, left, number, to);
+    }
     if is_plain(operator) {
         return assign_plain(asm, operator, width, left, right, to);
     }
@@ -162,6 +167,26 @@ fn assign_small(
 {
     let source = locate(asm, left, FIRST_SCRATCH)?;
     operate_with(asm, operator, width, target(to), source, number)?;
+    finish(asm, to)
+}
+
+/// Assigns a word rotated by a number.
+fn assign_rotated(
+    asm: &mut Asm,
+    operator: Op2,
+    width: Width,
+    left: &Operand,
+    number: u64,
+    to: &Destination,
+) -> Result<(), AllocError>
+    requires rotation { IsTrue (is_rotation operator) }
+    requires left { IsOperand asm.old.labels left.now }
+    requires destination { IsDestination asm.old.labels to.now }
+    ensures assigns { OnOk result (Adds (most_for left.now + shifts_of width + 7) asm.old.parts asm.new.parts (AssignsBinary (most_for left.now + shifts_of width + 7) operator width left.now (Held (Number number)) to.now)) }
+    ensures labels { asm.new.labels ≡ asm.old.labels }
+{
+    let source = locate(asm, left, FIRST_SCRATCH)?;
+    rotate_with(asm, operator, width, target(to), source, number)?;
     finish(asm, to)
 }
 

@@ -21,6 +21,7 @@
 //! - `cell`, `accesses`: a word of memory is loaded or stored, at a multiple of its size, or of less.
 //! - `operator`: register 5 gets what an operator gives on the words in registers 5 and 7.
 //! - `immediates`: the same with a small number that the instruction holds, and what a comparison with one tells; a difference with any number.
+//! - `rotation`: a rotation by a number.
 //! - `comparing`: control goes by a comparison of these words, or register 5 gets what it tells.
 //! - `unary`: register 5 gets what an operator gives on the word in it alone, or this word with its sign at another width.
 //!
@@ -52,6 +53,7 @@ mod number;
 mod operand;
 mod operator;
 mod place;
+mod rotation;
 mod searching;
 mod source;
 mod span;

@@ -253,11 +253,11 @@ pub(crate) fn keeps_width(operator: Op2) -> bool
 {
     matches!(
         operator,
-        Op2::And | Op2::Or | Op2::Xor | Op2::Divu | Op2::Modu
+        Op2::And | Op2::Or | Op2::Xor | Op2::Shrl | Op2::Divu | Op2::Modu
     )
 }
 
-/// A shift of 64 bits, cleared where the count is not below 64, and a cut.
+/// A shift of 64 bits, cleared where the count is not below 64, and a cut where what it gives may be past the width.
 fn shift(asm: &mut Asm, operator: Op2, width: Width) -> Result<(), AllocError>
     requires { IsTrue (is_shift operator) }
     ensures operates { OnOk result (Adds (3 + shifts_of width) asm.old.parts asm.new.parts (Runs 0 (3 + shifts_of width) (HaveWords width) (Operates operator width))) }
@@ -275,6 +275,9 @@ fn shift(asm: &mut Asm, operator: Op2, width: Width) -> Result<(), AllocError>
         rs1: FIRST_SCRATCH,
         rs2: HELPER,
     })?;
+    if keeps_width(operator) {
+        return Ok(());
+    }
     narrow(asm, width, FIRST_SCRATCH)
 }
 

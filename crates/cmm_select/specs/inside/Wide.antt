@@ -24,6 +24,7 @@ abbrev pub keeps_width : Op2 → Bool
 keeps_width op.And = true
 keeps_width op.Or = true
 keeps_width op.Xor = true
+keeps_width op.Shrl = true
 keeps_width op.Divu = true
 keeps_width op.Modu = true
 keeps_width _ = false
