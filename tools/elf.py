@@ -1,5 +1,5 @@
 #!/usr/bin/env python3
-"""Programs of examples/ as ELF files, by the real tools of RISC-V: elf.py [PROGRAM].
+"""Programs of examples/ as ELF files, by the real tools of RISC-V, and native runs by the run-time interface in C: elf.py [PROGRAM].
 
 PROGRAM builds the image of each program, crates/cmm/out/cmm where it is not given, which `rt ci` leaves there, and writes the ELF file of it by `elf`. Then
 
@@ -8,7 +8,7 @@ PROGRAM builds the image of each program, crates/cmm/out/cmm where it is not giv
 - `objdump` must read each word of its code as an instruction of RV64IM;
 - the loader of tools/start/, built here, must do with it under `qemu-riscv64` what `PROGRAM run` does with the image: the same output, line and exit status.
 
-Where one of the tools is not installed the script says so, and ends with 0. The last line is `N passed, M failed`.
+Where one of the tools is not installed the script says so, and no ELF file is tried. Then all of tools/native.py is done. The last line is `N passed, M failed`.
 """
 import os
 import re
@@ -149,11 +149,12 @@ def faults(folder, program, loader, name, given):
     return [fault for fault in found if fault]
 
 
-def main(program=f"{TOP}/crates/cmm/out/cmm"):
+def elf_files(program):
+    """How many examples passed as ELF files, and how many did not."""
     missing = [tool for tool in (COMPILER, READELF, OBJDUMP, EMULATOR) if not shutil.which(tool)]
     if missing:
         print(f"elf: {missing[0]} is not installed, so no ELF file is run")
-        return 0
+        return 0, 0
     failed = 0
     with tempfile.TemporaryDirectory() as folder:
         loader = built_loader(folder)
@@ -162,7 +163,16 @@ def main(program=f"{TOP}/crates/cmm/out/cmm"):
             failed += bool(found)
             for fault in found:
                 print(f"elf: {name}: {fault}")
-    print(f"{len(EXAMPLES) - failed} passed, {failed} failed")
+    return len(EXAMPLES) - failed, failed
+
+
+def main(program=f"{TOP}/crates/cmm/out/cmm"):
+    # (that module takes the table above by way of rows.py)
+    import native
+
+    parts = [elf_files(program), native.all_done(program)]
+    failed = sum(failed for _, failed in parts)
+    print(f"{sum(passed for passed, _ in parts)} passed, {failed} failed")
     return 1 if failed else 0
 
 

@@ -154,6 +154,20 @@ def changed_script(chance, script):
     return b"\n".join(lines)
 
 
+def with_changed_unit(chance, programs):
+    """The units of one of these programs, of which one has changed, and the script."""
+    units, script = chance.choice(programs)
+    at = chance.randrange(len(units))
+    change = chance.choice((changed_text, slightly_changed_text, slightly_changed_text))
+    return [(name, change(chance, text) if k == at else text) for k, (name, text) in enumerate(units)], script
+
+
+def with_changed_script(chance, programs):
+    """The units of one of these programs, and its script, changed."""
+    units, script = chance.choice(programs)
+    return units, changed_script(chance, script)
+
+
 def changed_image(chance, image):
     """An image with other words in its code, or with other bytes in its tables or somewhere."""
     sort, length = chance.randrange(3), int.from_bytes(image[8:16], "little")
@@ -309,15 +323,10 @@ class Cases:
         return sort, getattr(self, sort)(chance)
 
     def unit(self, chance):
-        units, script = chance.choice(self.programs)
-        at = chance.randrange(len(units))
-        change = chance.choice((changed_text, slightly_changed_text, slightly_changed_text))
-        units = [(name, change(chance, text) if k == at else text) for k, (name, text) in enumerate(units)]
-        return self.both_ways(chance, units, script)
+        return self.both_ways(chance, *with_changed_unit(chance, self.programs))
 
     def script(self, chance):
-        units, script = chance.choice(self.scripted)
-        return self.both_ways(chance, units, changed_script(chance, script))
+        return self.both_ways(chance, *with_changed_script(chance, self.scripted))
 
     @staticmethod
     def limits(chance):
@@ -411,12 +420,12 @@ class Cases:
 # ---- a process with its part of the seeds
 
 
-def work(program, seeds, until, told):
+def work(cases_of, program, seeds, until, told):
     """Runs the cases of seeds in a folder of its own, and tells the counts and the faults."""
     counts, faults = collections.Counter(), []
     with tempfile.TemporaryDirectory(prefix="fuzz-") as folder:
         os.chdir(folder)
-        cases = Cases(program)
+        cases = cases_of(program)
         for seed in seeds:
             if time.monotonic() > until:
                 break
@@ -429,14 +438,19 @@ def work(program, seeds, until, told):
     told.put((counts, faults))
 
 
-def main(program, first, last, processes="2", minutes="inf"):
-    told, count, until = multiprocessing.Queue(), int(processes), time.monotonic() + 60 * float(minutes)
-    parts = [range(int(first) + k, int(last) + 1, count) for k in range(count)]
-    workers = [multiprocessing.Process(target=work, args=(os.path.abspath(program), part, until, told)) for part in parts]
+def shared(cases_of, program, first, last, count, minutes):
+    """Runs the cases of the seeds in so many processes, each with cases of its own, and answers the counts and the seeds of the faults."""
+    told, until = multiprocessing.Queue(), time.monotonic() + 60 * minutes
+    parts = [range(first + k, last + 1, count) for k in range(count)]
+    workers = [multiprocessing.Process(target=work, args=(cases_of, os.path.abspath(program), part, until, told)) for part in parts]
     for worker in workers:
         worker.start()
     found = [told.get() for _ in workers]
-    counts, faults = sum((it for it, _ in found), collections.Counter()), [seed for _, seeds in found for seed in seeds]
+    return sum((it for it, _ in found), collections.Counter()), [seed for _, seeds in found for seed in seeds]
+
+
+def main(program, first, last, processes="2", minutes="inf"):
+    counts, faults = shared(Cases, program, int(first), int(last), int(processes), float(minutes))
     for sort in SORTS:
         of_sort = {TOLD[status]: n for (it, status), n in sorted(counts.items()) if it == sort}
         print(f"{sort}: {sum(of_sort.values())} cases", *(f"{name} {n}" for name, n in of_sort.items()), sep=", ")

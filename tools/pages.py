@@ -22,7 +22,7 @@ import trusted
 TOP = os.path.dirname(os.path.dirname(os.path.abspath(__file__)))
 MAP = "docs/ARCHITECTURE.md"
 PAGES = ["README.md"] + sorted(f"docs/{it}" for it in os.listdir(f"{TOP}/docs") if it.endswith(".md"))
-TREES = ["crates", "tools", "bench", "examples", "edits", "rows", ".ci"]
+TREES = ["crates", "runtime", "tools", "bench", "examples", "edits", "rows", ".ci"]
 MADE = ("out", "_prover")  # folders that builds make
 HERE = os.path.relpath(os.path.abspath(__file__), TOP)
 WORD = re.compile(r"[A-Za-z_][A-Za-z0-9_]*")
