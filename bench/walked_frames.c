@@ -49,7 +49,9 @@ static __attribute__((noinline)) unsigned down(unsigned depth)
             walked += (unsigned long)backtrace(frames, 256);
         return 0;
     }
-    return down(depth - 1) + depth;
+    unsigned below = down(depth - 1);
+    __asm__ volatile("" ::: "memory"); /* (so that this is no loop) */
+    return below + depth;
 }
 
 static void say(const char *what, double begun)
