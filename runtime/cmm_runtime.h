@@ -99,7 +99,7 @@ typedef struct Cmm_Image {
     uint32_t *site_at; /* for each word of the code, the number of the site with this return address, and 1; 0 where there is none */
 } Cmm_Image;
 
-/* How many bytes of memory Cmm_ReadImage needs beside these bytes of an image. It is at most four times their length, and a little. */
+/* How many bytes of memory Cmm_ReadImage needs beside these bytes of an image. It is at most three times their length, and a little. */
 size_t Cmm_ImageRoom(const void *bytes, size_t length);
 
 /* Reads the bytes of an image, every field of them. The bytes and the room, of Cmm_ImageRoom bytes, all 0 and at a multiple of 8, have to stay as they are as long as the
@@ -107,7 +107,7 @@ size_t Cmm_ImageRoom(const void *bytes, size_t length);
  * it one of version 2. */
 Cmm_Result Cmm_ReadImage(Cmm_Image *image, const void *bytes, size_t length, void *room);
 
-/* The address of the exported procedure or data label with this link name, where it is a data label. CMM_NO_LABEL where no data label is exported so. */
+/* The address of the data label that is exported with this link name. CMM_NO_LABEL where none is. */
 Cmm_Result Cmm_FindLabel(const Cmm_Image *image, Cmm_Text name, uint64_t *address);
 
 /* ---- A stopped program */
