@@ -1,4 +1,5 @@
 -- The C-- machine explains a run of an image that agrees with it.
+use Rattle.std.specs.Prelude.{Bool}
 use Rattle.std.proofs.Common.{◌≡◌, ◌≢◌, ◌⊎◌, ℕ, suc, ◌+◌, ◌*◌, ◌<◌, ◌≤◌, ◌++◌, inl, inr, true, false, List, Option, Some, None, IfSome, refl, ap, sym, ◌∙◌, subst, arith}
 use Rattle.rv_table.specs.declared.request.Request.TheVariants as request
 use Rattle.rv_table.specs.declared.trap.Trap.{Trap}
@@ -8,7 +9,7 @@ use Rattle.cmm_simulation.specs.Agreement.{Agrees, GoesWrong, IsMatched, StandsA
 use Rattle.cmm_simulation.specs.Machine.{Stands, after}
 use Rattle.cmm_simulation.specs.Seen.{Event, Input, IsWithin, End, Seen}
 use Rattle.cmm_simulation.proofs.Prefixes.{within_trans}
-use Rattle.cmm_simulation.proofs.Runs.{grows_until, kept_until, over_until}
+use Rattle.cmm_simulation.proofs.Runs.{grows_until, over_until, right_until}
 use Rattle.cmm_script.specs.Walk.{Activation}
 use Rattle.cmm_program.specs.Acts.{Act}
 use Rattle.cmm_program.specs.Acts as act
@@ -340,6 +341,10 @@ pub runs_are_explained : RunsAreExplained
 runs_are_explained s l factor n before after' answer stood ran agrees = explained s l factor n before after' ran.input ran.told agrees answer stood ran.stopped ran.comes
 
 pub errors_last : ErrorsLast
-errors_last s input most shown errs =
-    kept_until (machine_in s) (λ at. (machine_in s).wrong at ≡ true) (machine_lasts (todo_control s.program) s).wrong (suc errs.steps) (suc most) (start s input) (omega (arith, errs.soon))
-    errs.error
+errors_last s input most shown errs = by ((machine_in s).wrong (state_at s input (suc most))) refl
+  where
+    by : (wrong : Bool) → (machine_in s).wrong (state_at s input (suc most)) ≡ wrong → (machine_in s).wrong (state_at s input (suc most)) ≡ true
+    by true is = is
+    by false is =
+        let right = right_until (machine_in s) (machine_lasts (todo_control s.program) s) (suc errs.steps) (suc most) (start s input) (omega (arith, errs.soon)) is in
+        absurd (cc (sym errs.error ∙ right))

@@ -7,24 +7,18 @@ use Rattle.rv_memory.specs.States.{state_of}
 use Rattle.cmm_abi.specs.Regions.{Region}
 use Rattle.cmm_outside.specs.Output.{Appends, AppendsFront}
 use Rattle.cmm_script.specs.Walk.{Activation, activation_texts, line, walk_text}
-use Rattle.cmm_simulation.specs.Seen.{Seen}
 use Rattle.cmm_program.specs.Asking.{Break}
-use Rattle.cmm_program.specs.State.{Setting}
-use Rattle.cmm_program.specs.Walks.{walk_of}
-use Rattle.cmm_compile.specs.Agreement.{setting_of}
 use Rattle.cmm_image.specs.declared.parts.ImageParts.{ImageParts}
 use Rattle.cmm_image.specs.Laws.{ImagesAreOne}
 use Rattle.cmm_image_machine.specs.Frames.{Element}
 use Rattle.cmm_image_machine.specs.Machine.{region_of, launch_of}
 use Rattle.cmm_image_machine.specs.Walks.{chain_walk, element_shown}
-use Rattle.cmm_run.specs.declared.outcome.Outcome.{Outcome}
 use Rattle.cmm_snapshot.specs.Laws.{SnapshotsAreOne, SnapshotsKeepStates}
 use Rattle.cmm_snapshot.specs.SnapshotFormat.{taken_of}
 use Rattle.cmm_snapshot.specs.Snapshots.{SpellsSnapshot}
 use Rattle.cmm_walk.specs.Texts.{end_text}
 use Rattle.cmm_work.specs.Walking.{FailsToWalk, IsTorn, IsWhole, Stopped, chain_in}
 use Rattle.cmm_work.specs.Work.{Work}
-use Rattle.cmm_top_laws.specs.Explained.{Errs, StandsThere, state_at}
 use Rattle.cmm_top_laws.specs.Laws.{SavedRunsWalkSo, SnapshotsWalkSo}
 use Rattle.cmm_top_laws.specs.Walked.{WalksSo}
 
@@ -72,17 +66,7 @@ snapshots_walk_so one keep image script stack stood bytes walk saved walks name 
     ∙ (ap (λ (r : Region). chain_walk image r (state_of p.regs p.memory)) region ∙ ap (λ (s : rv.State). chain_walk image (region_of (launch_of image script stack)) s) state) in
     written_so p walk w (same ∙ walks) walked.walked
 
--- wherever the machine stands where a run ended, if it does
-where_it_stands : (s : Setting) (input : List ℕ) (n : ℕ) (shown : Seen ℕ) (answer : Outcome) (walk : Option (List Activation)) (w : Work)
-    (stands : StandsThere s input n shown answer walk ⊎ Errs s input n shown) →
-    ((there : StandsThere s input n shown answer walk) → WalksSo (walk_of s (state_at s input there.steps).store) w) →
-    elim stands as (λ _. Type 0) [ inl there ↦ WalksSo (walk_of s (state_at s input there.steps).store) w | inr errs ↦ Unit {0} ]
-where_it_stands s input n shown answer walk w (inl there) walks = walks there
-where_it_stands s input n shown answer walk w (inr errs) walks = tt
-
 pub saved_runs_walk_so : ImagesAreOne → SnapshotsWalkSo → SavedRunsWalkSo
-saved_runs_walk_so one walk_so contents names client limits saved ran so stopped has name w walked spelled same =
+saved_runs_walk_so one walk_so contents names client limits saved ran so stopped has name w walked spelled same there =
     let image : walked.program.image ≡ so.image = one walked.spelled.0 walked.program.image so.image walked.spelled.2 spelled in
-    where_it_stands (setting_of so.program so.image so.script limits.stack) so.explained.input limits.steps so.explained.shown so.answer
-    (chain_walk so.image (region_of (launch_of so.image so.script limits.stack)) so.stood) w so.explained.stands
-    (λ there. walk_so so.image so.script limits.stack so.stood has.bytes _ has.snapshot (there.leaves stopped) name saved w walked image same)
+    walk_so so.image so.script limits.stack so.stood has.bytes _ has.snapshot (there.leaves stopped) name saved w walked image same

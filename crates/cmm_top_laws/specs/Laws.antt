@@ -1,5 +1,5 @@
 -- What a user relies on: calls do what the C-- machine does.
-use Rattle.std.specs.Prelude.{◌≡◌, ℕ, suc, true, IfSome, List, Option, Some, inl, inr}
+use Rattle.std.specs.Prelude.{◌≡◌, ℕ, suc, true, IfSome, List, Option, Some}
 use Rattle.std.specs.List.{All}
 use Rattle.rv_table.specs.Machine as rv
 use Rattle.cmm_outside.specs.Storage.{Contents}
@@ -32,7 +32,7 @@ use Rattle.cmm_work.specs.Walking.{HasWalked}
 use Rattle.cmm_top.specs.Words.{Task, task_of}
 use Rattle.cmm_work.specs.Work.{Work}
 use Rattle.cmm_top_laws.specs.Calls.{CanRun, HasStackSize, IsMachineOf, IsMachineOfBuilt, IsMachineOfGenerated}
-use Rattle.cmm_top_laws.specs.Explained.{Errs, IsExplained, machine_in, state_at}
+use Rattle.cmm_top_laws.specs.Explained.{Errs, IsExplained, StandsThere, machine_in, state_at}
 use Rattle.cmm_top_laws.specs.Walked.{WalksSo}
 
 -- the C-- machine explains a run of an image that agrees with it
@@ -84,4 +84,5 @@ SavedRunsWalkSo = (contents : Option Contents) (names : List (List ℕ)) (client
     (so : IsMachineOfBuilt contents names client limits (Some saved) ran) → so.answer ≡ Stopped → (has : HasSaved so.image limits.stack so.stood saved ran) →
     (name : List ℕ) (w : Work) (walked : HasWalked name saved w) → SpellsImage walked.spelled.0 so.image → walked.stopped.0 ≡ has.bytes →
     let s = setting_of so.program so.image so.script limits.stack in
-    elim so.explained.stands as (λ _. Type 0) [ inl stands ↦ WalksSo (walk_of s (state_at s so.explained.input stands.steps).store) w | inr errs ↦ Unit {0} ]
+    (there : StandsThere s so.explained.input limits.steps so.explained.shown so.answer (chain_walk so.image (region_of (launch_of so.image so.script limits.stack)) so.stood)) →
+    WalksSo (walk_of s (state_at s so.explained.input there.steps).store) w
