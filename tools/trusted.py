@@ -30,6 +30,7 @@ WHOLE = {
     "crates/cmm_outside/src/input.rt": ["pub trait Source "],
     "crates/cmm_outside/src/output.rt": ["pub trait Sink "],
     "crates/cmm_top/src/top.rt": ["pub fn cmm_main"],
+    "crates/cmm_top_laws/src/accepted.rt": ["pub fn "],
     "crates/cmm_top_laws/src/laws.rt": ["pub fn "],
     "crates/cmm/src/main.rt": ["fn run"],
 }

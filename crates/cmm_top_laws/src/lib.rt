@@ -7,7 +7,11 @@
 //! chain; or it commits an unchecked error, and what it has shown before was written and taken.
 //!
 //! - `specs/Explained`: what it is that the machine explains a run. `specs/Calls`: what that means of `exec`, of `gen`, and of `run` with a file that `build` has written.
-//! - `specs/Laws`, `laws`: that it is so. No function here does anything, and none has an error.
+//! - `specs/Laws`, `laws`: that it is so.
+//! - `specs/Accepted`, `accepted`: what means a program is built and run.
+//!
+//! No function here does anything, and none has an error.
 #![tactic(auto)]
 
+pub mod accepted;
 pub mod laws;
