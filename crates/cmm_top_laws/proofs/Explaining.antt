@@ -1,6 +1,6 @@
 -- The C-- machine explains a run of an image that agrees with it.
 use Rattle.std.specs.Prelude.{Bool}
-use Rattle.std.proofs.Common.{◌≡◌, ◌≢◌, ◌⊎◌, ℕ, suc, ◌+◌, ◌*◌, ◌<◌, ◌≤◌, ◌++◌, inl, inr, true, false, List, Option, Some, None, IfSome, refl, ap, sym, ◌∙◌, subst, arith}
+use Rattle.std.proofs.Common.{◌≡◌, ◌≢◌, ℕ, suc, ◌+◌, ◌*◌, ◌≤◌, ◌++◌, inl, inr, true, false, List, Option, Some, None, IfSome, refl, ap, sym, ◌∙◌, subst, arith}
 use Rattle.rv_table.specs.declared.request.Request.TheVariants as request
 use Rattle.rv_table.specs.declared.trap.Trap.{Trap}
 use Rattle.rv_table.specs.Machine as rv
@@ -32,7 +32,7 @@ use Rattle.cmm_run.specs.declared.outcome.Outcome.{Outcome}
 use Rattle.cmm_run.specs.declared.outcome.Outcome.TheVariants as outcome
 use Rattle.cmm_run.specs.Outside.{Outside as Streams}
 use Rattle.cmm_run.specs.Runs as runs
-use Rattle.cmm_run.specs.Runs.{Comes, Ends, IsBeforeInput, Runs, answer_of}
+use Rattle.cmm_run.specs.Runs.{Comes, Ends, IsBeforeInput, answer_of}
 use Rattle.cmm_top_laws.specs.Explained.{Errs, Gave, IsExplained, Shows, ShowsAll, StandsThere, is_fault, machine_in, state_at}
 use Rattle.cmm_top_laws.specs.Laws.{ErrorsLast, RunsAreExplained}
 
